@@ -1,0 +1,3 @@
+pub mod Afters
+pub mod Transfers
+pub mod Fields

@@ -1,0 +1,3 @@
+// Boards: memories over buffers that the host lends.
+mod fills;
+pub mod single;

@@ -1,0 +1,3 @@
+pub mod Header
+pub mod Walks
+pub mod Judged

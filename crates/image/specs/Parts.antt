@@ -1,0 +1,37 @@
+-- What the reader's values stand for.
+use denote.Ref.{now}
+use mathlib.Core.Path.{_≡_}
+use mathlib.Core.List.{List, [], _∷_}
+use Prim.Native.Nat.{ℕ}
+use Rattle.std.specs.declared.option.Option.{Option}
+use Rattle.std.specs.declared.option.Option.the-variants.{Some, None}
+use Rattle.std.specs.declared.result.Result.{Result}
+use Rattle.std.specs.declared.result.Result.the-variants.{Ok, Err}
+use Rattle.refusal.specs.declared.Refusal.{Refusal}
+use Rattle.image.specs.declared.Block.{Block}
+use Rattle.image.specs.declared.Blocks.{Blocks}
+use Rattle.image.specs.declared.Image.{Image}
+use Rattle.image.specs.Files.{BlockOf, Parsed, blocksFrom}
+
+abbrev pub blockOf : Block → BlockOf
+blockOf b = record { offset = b .offset; address = b .address; bytes = now (b .bytes) }
+
+abbrev pub shown : Option Block → Option BlockOf
+shown (Some b) = Some (blockOf b)
+shown None = None
+
+-- The blocks that are still to be handed out.
+abbrev pub left : Blocks → List BlockOf
+left b = blocksFrom (now (b .file)) (b .offset)
+
+abbrev pub imageBlocks : Image → List BlockOf
+imageBlocks image = blocksFrom (now (image .file)) 22
+
+abbrev pub parsed : Result Image Refusal → Result Parsed Refusal
+parsed (Ok image) = Ok (record { table = image .table; start = image .start; blocks = imageBlocks image })
+parsed (Err r) = Err r
+
+-- One visit: it hands out the first of the blocks before it, and the rest is left; or there was none.
+abbrev pub Visits : Option Block → List BlockOf → List BlockOf → Type 0
+Visits (Some b) whole rest = whole ≡ blockOf b ∷ rest
+Visits None whole rest = (whole ≡ []) × (rest ≡ [])

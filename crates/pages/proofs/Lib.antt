@@ -1,0 +1,4 @@
+pub mod Truths
+pub mod Spaces
+pub mod Clears
+pub mod Lays

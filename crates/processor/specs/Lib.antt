@@ -1,0 +1,3 @@
+pub mod Fetches
+pub mod Effects
+pub mod Steps

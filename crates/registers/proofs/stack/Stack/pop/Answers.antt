@@ -1,0 +1,6 @@
+use borrow.Author.Needs.{needs}
+use Rattle.registers.proofs.SameStack.{same-stack}
+use Rattle.registers.proofs.stack.Stack.pop.Needs as need
+
+pub returns : need.returns
+returns c = search (needs, same-stack)

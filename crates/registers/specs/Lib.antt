@@ -1,0 +1,4 @@
+pub mod Banks
+pub mod Stacks
+pub mod Processors
+pub mod Tests

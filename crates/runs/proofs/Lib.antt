@@ -1,0 +1,3 @@
+pub mod Turning
+pub mod Lawful
+pub mod Kept
