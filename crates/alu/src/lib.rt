@@ -4,7 +4,7 @@ ghost use Rattle.alu.specs.Operations.{parityOf, flagsOf, resultOf, shiftedOf}
 use registers::bank::Flags;
 
 // In the order of the middle digit of their op codes.
-#[derive(Clone, Copy, PartialEq, Eq)]
+#[derive(Clone, Copy)]
 pub enum Operation {
     Add,
     AddCarry,
@@ -16,7 +16,7 @@ pub enum Operation {
     Compare,
 }
 
-#[derive(Clone, Copy, PartialEq, Eq)]
+#[derive(Clone, Copy)]
 pub enum Shift {
     LeftCircular,
     RightCircular,
@@ -41,13 +41,21 @@ fn odd_ones(b: u8) -> bool
 pub fn flags_of(carry: bool, byte: u8) -> Flags
     ensures { λ r. ⌜ r ≡ flagsOf carry byte ⌝ }
 {
-    Flags { carry, zero: byte == 0, sign: byte >= 128, parity: odd_ones(byte) }
+    Flags {
+        carry,
+        zero: byte == 0,
+        sign: byte >= 128,
+        parity: odd_ones(byte),
+    }
 }
 
 fn with_flags(carry: bool, byte: u8) -> Outcome
     ensures { λ r. ⌜ r ≡ record { byte = byte; flags = flagsOf carry byte } ⌝ }
 {
-    Outcome { byte, flags: flags_of(carry, byte) }
+    Outcome {
+        byte,
+        flags: flags_of(carry, byte),
+    }
 }
 
 fn sum(a: u8, b: u8, carry: bool) -> Outcome
@@ -76,7 +84,10 @@ pub fn operate(op: Operation, a: u8, b: u8, carry: bool) -> Outcome
         Operation::And => with_flags(false, a & b),
         Operation::ExclusiveOr => with_flags(false, a ^ b),
         Operation::Or => with_flags(false, a | b),
-        Operation::Compare => Outcome { byte: a, flags: difference(a, b, false).flags },
+        Operation::Compare => Outcome {
+            byte: a,
+            flags: difference(a, b, false).flags,
+        },
     }
 }
 

@@ -24,8 +24,8 @@ abbrev pub fieldElementOf : Operation → Bank → Cells → Worked
 fieldElementOf o k s =
     andThen (readOf s (pairIn k HL)) k s
     (λ b. andThen (readOf s (pairIn k DE)) k s
-      (λ a. andThen (allowOf s (pairIn k DE)) k s
-        (λ _. after (Ok tt) (withFlags (onward 65535 k) (resultOf o a b (k .flags .carry) .flags)) (storeOf s (pairIn k DE) (resultOf o a b (k .flags .carry) .byte)))))
+    (λ a. andThen (allowOf s (pairIn k DE)) k s
+    (λ _. after (Ok tt) (withFlags (onward 65535 k) (resultOf o a b (k .flags .carry) .flags)) (storeOf s (pairIn k DE) (resultOf o a b (k .flags .carry) .byte)))))
 
 -- The low four bits of C, where 0 stands for 16.
 abbrev pub widthOf : ℕ → ℕ

@@ -3,10 +3,10 @@ ghost use denote.Ref.{now};
 ghost use mathlib.Core.Path.{_≡_};
 ghost use Rattle.block.specs.Afters.{after};
 ghost use Rattle.block.specs.Fields.{fieldElementOf, widthOf, fieldOf};
-use registers::bank::Bank;
-use registers::bank::Pair;
 use alu::Operation;
 use alu::operate;
+use registers::bank::Bank;
+use registers::bank::Pair;
 use space::Space;
 use stop::Fault;
 

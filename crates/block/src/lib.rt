@@ -1,3 +1,3 @@
 // The block and field instructions over any space: element by element, up to an end or a fault.
-pub mod transfers;
 pub mod fields;
+pub mod transfers;

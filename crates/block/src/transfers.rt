@@ -3,9 +3,9 @@ ghost use denote.Ref.{now};
 ghost use mathlib.Core.Path.{_≡_};
 ghost use Rattle.block.specs.Afters.{after};
 ghost use Rattle.block.specs.Transfers.{elementOf, convertedOf, elementBy, flagged, blockOf};
+use alu::flags_of;
 use registers::bank::Bank;
 use registers::bank::Pair;
-use alu::flags_of;
 use space::Space;
 use stop::Fault;
 
@@ -83,12 +83,18 @@ pub fn run_block<S: Space>(kind: Block, bank: &mut Bank, space: &mut S) -> Resul
         elements += 1;
         if sum == 256 {
             finish(bank, sum);
-            return Ok(Transfer { elements, matched: true });
+            return Ok(Transfer {
+                elements,
+                matched: true,
+            });
         }
         bank.c = bank.c.wrapping_sub(1);
         if bank.c == 0 {
             finish(bank, sum);
-            return Ok(Transfer { elements, matched: false });
+            return Ok(Transfer {
+                elements,
+                matched: false,
+            });
         }
     }
 }

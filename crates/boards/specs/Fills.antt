@@ -13,10 +13,10 @@ use Rattle.memory.specs.Memories.{inSet}
 -- The grounds of a fill in their order; the last two have the offset as their place.
 abbrev pub judgedFill : (right closed : Bool) (offset count : ℕ) → Judgement
 judgedFill right closed offset count = first
-  ( when (not right) WrongLength
-  ∷ at OutOfRange (picked (ltb 4096 (offset + count)) offset None)
-  ∷ at NoWrites (picked (closed && ltb 0 count) offset None)
-  ∷ [])
+    (when (not right) WrongLength
+    ∷ at OutOfRange (picked (ltb 4096 (offset + count)) offset None)
+    ∷ at NoWrites (picked (closed && ltb 0 count) offset None)
+    ∷ [])
 
 -- The buffer with the bytes from `place` on, and every other byte as it was.
 abbrev pub placed : List ℕ → ℕ → List ℕ → List ℕ

@@ -5,7 +5,6 @@ ghost use mathlib.Core.Bool.{Bool};
 ghost use Prim.Native.Nat.{ℕ, _+_, _≤_};
 ghost use lib.ListN.{length};
 ghost use Rattle.boards.specs.Fills.{judgedFill, placed};
-
 use refusal::Ground;
 use refusal::Refusal;
 

@@ -42,7 +42,7 @@ firstPlainOf d l =
     (cond (are d l 7 7) (Err Privileged)
     (cond (eqb l 3) (Ok (i.ReturnIf (flagOf (d % 4)) (leb 4 d)))
     (cond (eqb l 6) (Ok (i.LoadImmediate (registerOf d)))
-      (Err NotCarried)))))))))))))))
+    (Err NotCarried)))))))))))))))
 
 -- 0dl, of those that mean another thing after a selecting byte, or nothing.
 abbrev pub firstAfterOf : Option Selector → ℕ → ℕ → Answer
@@ -70,7 +70,7 @@ firstOf s d l =
     (cond (are d l 7 0) (paired i.Push (pairBy s))
     (cond (are d l 7 2) (Err Privileged)
     (cond (eqb l 4) (Ok (i.Operate (operationOf d) Immediate (impliedBy s)))
-      (firstAfterOf s d l)))))))
+    (firstAfterOf s d l)))))))
 
 -- What has no form with a selecting byte.
 abbrev pub ifNone : Option Selector → Answer → Answer
@@ -83,11 +83,11 @@ secondOf s d l =
     cond (are d l 0 1 || are d l 0 3) (Err Privileged)
     (cond (eqb (l % 2) 1 && ((leb 2 d && ltb d 5) || (are d l 5 1 || are d l 5 3))) (Err Privileged)
     (ifNone s
-      (cond (are d l 0 4) (Ok i.Jump)
-      (cond (are d l 0 6) (Ok i.Call)
-      (cond (eqb l 0) (Ok (i.JumpIf (flagOf (d % 4)) (leb 4 d)))
-      (cond (eqb l 2) (Ok (i.CallIf (flagOf (d % 4)) (leb 4 d)))
-        (Err NotCarried)))))))
+    (cond (are d l 0 4) (Ok i.Jump)
+    (cond (are d l 0 6) (Ok i.Call)
+    (cond (eqb l 0) (Ok (i.JumpIf (flagOf (d % 4)) (leb 4 d)))
+    (cond (eqb l 2) (Ok (i.CallIf (flagOf (d % 4)) (leb 4 d)))
+    (Err NotCarried)))))))
 
 -- 3dl
 abbrev pub lastOf : Option Selector → ℕ → ℕ → Answer
@@ -95,7 +95,7 @@ lastOf s d l =
     cond (are d l 7 7) (ifNone s (Ok i.Halt))
     (cond (eqb l 7) (paired (i.LoadFromMemory (registerOf d)) (pairBy s))
     (cond (eqb d 7) (paired (i.StoreToMemory (registerOf l)) (pairBy s))
-      (ifNone s (Ok (i.Load (registerOf d) (registerOf l))))))
+    (ifNone s (Ok (i.Load (registerOf d) (registerOf l))))))
 
 -- By the top digit.
 abbrev pub quarter : ℕ → Answer → Answer → Answer → Answer → Answer

@@ -3,18 +3,19 @@ ghost use mathlib.Core.Path.{_≡_};
 ghost use Prim.Native.Nat.{ℕ, _/_, _%_, _<_, _≤_};
 ghost use Rattle.decode.specs.Digits.{registerOf, flagOf, operationOf, sourceOf, selectorOf, impliedBy, pairBy};
 ghost use Rattle.decode.specs.Patterns.{firstPlainOf, firstAfterOf, firstOf, secondOf, lastOf, decodeOf};
+
 pub mod instruction;
 pub mod lengths;
 
-use registers::bank::Flag;
-use registers::bank::Pair;
-use registers::bank::Register;
 use alu::Operation;
 use alu::Shift;
-use stop::Fault;
 use instruction::Instruction;
 use instruction::Selector;
 use instruction::Source;
+use registers::bank::Flag;
+use registers::bank::Pair;
+use registers::bank::Register;
+use stop::Fault;
 
 fn register_at(digit: u8) -> Register
     requires { ⌜ digit < 8 ⌝ }
@@ -209,9 +210,18 @@ fn decode_last(selector: Option<Selector>, op: u8) -> Result<Instruction, Fault>
     let low = op % 8;
     match (selector, implied_pair(selector)) {
         (None, _) if op == 0o377 => Ok(Instruction::Halt),
-        (None, _) if middle < 7 && low < 7 => Ok(Instruction::Load(register_at(middle), register_at(low))),
-        (_, Some(pair)) if middle < 7 && low == 7 => Ok(Instruction::LoadFromMemory(register_at(middle), pair)),
-        (_, Some(pair)) if middle == 7 && low < 7 => Ok(Instruction::StoreToMemory(register_at(low), pair)),
+        (None, _) if middle < 7 && low < 7 => Ok(Instruction::Load(
+            register_at(middle),
+            register_at(low),
+        )),
+        (_, Some(pair)) if middle < 7 && low == 7 => Ok(Instruction::LoadFromMemory(
+            register_at(middle),
+            pair,
+        )),
+        (_, Some(pair)) if middle == 7 && low < 7 => Ok(Instruction::StoreToMemory(
+            register_at(low),
+            pair,
+        )),
         _ => Err(Fault::NotCarried),
     }
 }
@@ -224,7 +234,11 @@ pub fn decode(selector: Option<Selector>, op: u8) -> Result<Instruction, Fault>
         0o000..=0o077 => decode_first(selector, op),
         0o100..=0o177 => decode_second(selector, op),
         0o200..=0o277 => {
-            Ok(Instruction::Operate(operation_at(op / 8 % 8), source_at(op % 8), implied(selector)))
+            Ok(Instruction::Operate(
+                operation_at(op / 8 % 8),
+                source_at(op % 8),
+                implied(selector),
+            ))
         }
         0o300..=0o377 => decode_last(selector, op),
     }

@@ -1,16 +1,21 @@
 -- A block's header and bytes, as parts of the rest of a file.
 use mathlib.Core.Path.{_≡_, refl, sym, _∙_, ap, ap₂}
 use mathlib.Core.List.{List}
-use mathlib.Core.Bool.{cond, true, false}
+use mathlib.Core.Bool.{cond}
 use Prim.Native.Nat.{ℕ, _+_, _-_, _*_, _<_, _≤_}
 use native.Mathlib.Omega.{arith}
 use lib.ListN.{length, getD, take, drop}
 use Rattle.std.specs.shelf.Lists.{between}
+use Rattle.std.specs.declared.option.Option.{Option}
 use Rattle.std.specs.declared.option.Option.the-variants.{Some, None}
 use Rattle.std.proofs.shelf.Lists.{getD-drop, length-drop, drop-drop}
 use Rattle.std.proofs.shelf.Parts.{between-to-end}
 use Rattle.std.proofs.shelf.Tests.{le-leb, lt-leb}
-use Rattle.image.specs.Files.{BlockOf, word, past, blockAt, headAt}
+use Rattle.image.specs.Files.{BlockOf, word, past, blockAt, complete}
+
+-- The block at an offset, if the file has all of it.
+abbrev pub headAt : List ℕ → ℕ → Option BlockOf
+headAt file offset = cond (complete file offset) (Some (blockAt file offset)) None
 
 -- The rest of a file from an offset, and what follows its first four bytes.
 abbrev pub rest : List ℕ → ℕ → List ℕ

@@ -1,16 +1,14 @@
 -- A file on which no ground holds is an image.
-use mathlib.Core.Path.{_≡_, refl, sym, _∙_, ap, ap₂}
-use mathlib.Core.Bool.{Bool, true, false, not}
+use mathlib.Core.Path.{_≡_}
+use mathlib.Core.Bool.{true, false, not}
 use mathlib.Core.List.{List}
-use Prim.Native.Nat.{ℕ, _<_, _≤_}
+use Prim.Native.Nat.{ℕ, _≤_}
 use native.Mathlib.Omega.{arith}
 use lib.Dec.{ltb}
 use lib.ListN.{length}
-use Rattle.std.specs.declared.result.Result.the-variants.{Ok, Err}
+use Rattle.std.specs.declared.result.Result.the-variants.{Ok}
 use Rattle.std.proofs.shelf.Tests.{le-ltb, not-from-true}
 use Rattle.image.specs.Files.{begins, partsOf, imageOf, blocksEnd}
-use Rattle.image.specs.Laws.{Tiles}
-use Rattle.image.proofs.Walks.{tiles}
 
 pub accepted : (file : List ℕ) → length file ≤ 16384 → begins file ≡ true → 22 ≤ length file → length file ≤ blocksEnd file 22 → imageOf file ≡ Ok (partsOf file)
 accepted file small marked headed whole =

@@ -1,5 +1,5 @@
 -- What an image file says, and when it is refused.
-use mathlib.Core.Bool.{Bool, true, false, cond, not, _&&_}
+use mathlib.Core.Bool.{Bool, true, false, not, _&&_}
 use mathlib.Core.List.{List, [], _∷_}
 use Prim.Native.Nat.{ℕ, zero, suc, _+_, _*_}
 use lib.Dec.{eqb, ltb, leb}
@@ -30,7 +30,7 @@ word file offset = getD file offset 0 * 256 + getD file (offset + 1) 0
 -- The letters D, P, J and the version 1.
 abbrev pub begins : List ℕ → Bool
 begins file = leb 5 (length file)
-  && (eqb (getD file 0 0) 68 && (eqb (getD file 1 0) 80 && (eqb (getD file 2 0) 74 && (eqb (getD file 3 0) 0 && eqb (getD file 4 0) 1))))
+    && (eqb (getD file 0 0) 68 && (eqb (getD file 1 0) 80 && (eqb (getD file 2 0) 74 && (eqb (getD file 3 0) 0 && eqb (getD file 4 0) 1))))
 
 -- The block whose header stands at an offset: address, length, and that many bytes.
 abbrev pub blockAt : List ℕ → ℕ → BlockOf
@@ -43,9 +43,6 @@ past file offset = offset + 4 + word file (offset + 2)
 abbrev pub complete : List ℕ → ℕ → Bool
 complete file offset = leb (past file offset) (length file)
 
-abbrev pub headAt : List ℕ → ℕ → Option BlockOf
-headAt file offset = cond (complete file offset) (Some (blockAt file offset)) None
-
 -- The complete blocks, one behind the other, and the offset at which no further one stands.
 pub record Walk : Type 0 where
   pub blocks : List BlockOf
@@ -54,12 +51,13 @@ pub record Walk : Type 0 where
 abbrev pub before : BlockOf → Walk → Walk
 before block walk = record { blocks = block ∷ walk .blocks; end = walk .end }
 
+-- Each takes four bytes at least, so as much fuel as the file has bytes suffices.
 unfoldable pub walked : (fuel : ℕ) → List ℕ → ℕ → Walk
 walked zero file offset = record { blocks = []; end = offset }
-walked (suc fuel) file offset = elim (complete file offset)
-  [ true ↦ before (blockAt file offset) (walked fuel file (past file offset))
+walked (suc fuel) file offset = elim (complete file offset) [
+  | true ↦ before (blockAt file offset) (walked fuel file (past file offset))
   | false ↦ record { blocks = []; end = offset }
-  ]
+]
 
 abbrev pub blocksFrom : List ℕ → ℕ → List BlockOf
 blocksFrom file offset = walked (length file) file offset .blocks
@@ -77,10 +75,10 @@ cutAt file =
 -- The grounds in their order.
 abbrev pub judgedFile : List ℕ → Judgement
 judgedFile file = first
-  ( at WrongLength (picked (ltb 16384 (length file)) 16384 None)
-  ∷ at NoImage (picked (not (begins file)) 0 None)
-  ∷ at Incomplete (cutAt file)
-  ∷ [])
+    (at WrongLength (picked (ltb 16384 (length file)) 16384 None)
+    ∷ at NoImage (picked (not (begins file)) 0 None)
+    ∷ at Incomplete (cutAt file)
+    ∷ [])
 
 -- The parts of a file that is not refused.
 abbrev pub partsOf : List ℕ → Parsed

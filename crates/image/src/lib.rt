@@ -4,10 +4,9 @@ ghost use mathlib.Core.Path.{_≡_};
 ghost use mathlib.Core.Bool.{Bool, true, false};
 ghost use Prim.Native.Nat.{ℕ, _+_, _≤_};
 ghost use lib.ListN.{length};
-ghost use Rattle.image.specs.Files.{imageOf, begins, blocksEnd, headAt};
-ghost use Rattle.image.specs.Parts.{parsed, shown, imageBlocks, left, Visits};
+ghost use Rattle.image.specs.Files.{imageOf, begins, blocksEnd};
+ghost use Rattle.image.specs.Parts.{parsed, imageBlocks, left, Stands, Visits};
 ghost use Rattle.image.specs.Laws.{Tiled};
-
 use refusal::Ground;
 use refusal::Refusal;
 
@@ -46,7 +45,7 @@ fn begins_image(file: &[u8]) -> bool
 
 // The block at an offset, if the file has all of it.
 fn block_at<'a>(file: &'a [u8], offset: usize) -> Option<Block<'a>>
-    ensures { λ r. ⌜ shown r ≡ headAt (now (file .entry)) offset ⌝ }
+    ensures { λ r. ⌜ Stands r (now (file .entry)) offset ⌝ }
 {
     if offset > file.len() {
         return None;
@@ -59,7 +58,11 @@ fn block_at<'a>(file: &'a [u8], offset: usize) -> Option<Block<'a>>
     if size > rest.len() {
         return None;
     }
-    Some(Block { offset, address, bytes: &rest[0..size] })
+    Some(Block {
+        offset,
+        address,
+        bytes: &rest[0..size],
+    })
 }
 
 // Where the blocks end: at the end of the file, or at the first that is incomplete.
@@ -119,7 +122,10 @@ impl<'a> Image<'a> {
     pub fn blocks(&self) -> Blocks<'a>
         ensures { λ r. ⌜ left r ≡ imageBlocks (now (self .entry)) ⌝ }
     {
-        Blocks { file: self.file, offset: 22 }
+        Blocks {
+            file: self.file,
+            offset: 22,
+        }
     }
 }
 

@@ -76,7 +76,7 @@ abbrev pub turned : Processor → Shift → Register → Processor
 turned c t r =
     withBank c
     (withCarry (withValue (bankOf c) r (shiftedOf t (valueIn (bankOf c) r) (bankOf c .flags .carry) .0))
-      (shiftedOf t (valueIn (bankOf c) r) (bankOf c .flags .carry) .1))
+    (shiftedOf t (valueIn (bankOf c) r) (bankOf c .flags .carry) .1))
 
 -- The operand of an operation; `v` is the byte after the op code.
 abbrev pub sourceIn : Source → Cells → Bank → ℕ → Result ℕ Fault

@@ -3,11 +3,6 @@ ghost use denote.Ref.{now};
 ghost use mathlib.Core.Path.{_≡_};
 ghost use Rattle.std.specs.declared.option.Option.the-variants.{Some, None};
 ghost use Rattle.processor.specs.Effects.{plain, taken, effect, loaded, operatedBy, turned, sourceIn, calledTo, returned, pushedOn, poppedInto, movedBy, fieldBy, effectOf};
-use registers::bank::Bank;
-use registers::bank::Pair;
-use registers::bank::Register;
-use registers::processor::Mode;
-use registers::processor::Processor;
 use alu::Operation;
 use alu::Shift;
 use alu::operate;
@@ -18,6 +13,11 @@ use block::transfers::Block;
 use block::transfers::run_block;
 use decode::instruction::Instruction;
 use decode::instruction::Source;
+use registers::bank::Bank;
+use registers::bank::Pair;
+use registers::bank::Register;
+use registers::processor::Mode;
+use registers::processor::Processor;
 use space::Space;
 use stop::Fault;
 use stop::Trap;
@@ -33,19 +33,43 @@ pub struct Carried {
 fn plainly() -> Carried
     ensures { λ r. ⌜ r ≡ record { course = plain; trap = None } ⌝ }
 {
-    Carried { course: Course { taken: false, elements: 0, matched: false, unmarked: false }, trap: None }
+    Carried {
+        course: Course {
+            taken: false,
+            elements: 0,
+            matched: false,
+            unmarked: false,
+        },
+        trap: None,
+    }
 }
 
 fn taking() -> Carried
     ensures { λ r. ⌜ r ≡ record { course = taken; trap = None } ⌝ }
 {
-    Carried { course: Course { taken: true, elements: 0, matched: false, unmarked: false }, trap: None }
+    Carried {
+        course: Course {
+            taken: true,
+            elements: 0,
+            matched: false,
+            unmarked: false,
+        },
+        trap: None,
+    }
 }
 
 fn ending(trap: Trap) -> Carried
     ensures { λ r. ⌜ r ≡ record { course = plain; trap = Some trap } ⌝ }
 {
-    Carried { course: Course { taken: false, elements: 0, matched: false, unmarked: false }, trap: Some(trap) }
+    Carried {
+        course: Course {
+            taken: false,
+            elements: 0,
+            matched: false,
+            unmarked: false,
+        },
+        trap: Some(trap),
+    }
 }
 
 fn load(cpu: &mut Processor, r: Register, v: u8)
@@ -127,7 +151,12 @@ fn move_block<S: Space>(cpu: &mut Processor, space: &mut S, kind: Block) -> Resu
     match run_block(kind, &mut bank, space) {
         Ok(moved) => {
             cpu.set_bank(bank);
-            let course = Course { taken: false, elements: moved.elements, matched: moved.matched, unmarked };
+            let course = Course {
+                taken: false,
+                elements: moved.elements,
+                matched: moved.matched,
+                unmarked,
+            };
             Ok(Carried { course, trap: None })
         }
         Err(fault) => {
@@ -147,7 +176,12 @@ fn work_field<S: Space>(cpu: &mut Processor, space: &mut S, op: Operation) -> Re
     match run_field(op, &mut bank, space) {
         Ok(()) => {
             cpu.set_bank(bank);
-            let course = Course { taken: false, elements: width as u16, matched: false, unmarked: false };
+            let course = Course {
+                taken: false,
+                elements: width as u16,
+                matched: false,
+                unmarked: false,
+            };
             Ok(Carried { course, trap: None })
         }
         Err(fault) => {
@@ -158,7 +192,12 @@ fn work_field<S: Space>(cpu: &mut Processor, space: &mut S, op: Operation) -> Re
 }
 
 // The effect of an instruction. P is after it.
-pub(crate) fn execute<S: Space>(cpu: &mut Processor, space: &mut S, i: Instruction, operand: u16) -> Result<Carried, Fault>
+pub(crate) fn execute<S: Space>(
+    cpu: &mut Processor,
+    space: &mut S,
+    i: Instruction,
+    operand: u16,
+) -> Result<Carried, Fault>
     ensures all { λ r. ⌜ effect r (now (cpu .exit)) (cells (now (space .exit))) ≡ effectOf i operand (now (cpu .entry)) (cells (now (space .entry))) ⌝ }
     ensures kept { λ _. ⌜ frame (now (space .exit)) ≡ frame (now (space .entry)) ⌝ }
 {

@@ -3,9 +3,9 @@ ghost use denote.Ref.{now};
 ghost use mathlib.Core.Path.{_≡_};
 ghost use Rattle.processor.specs.Fetches.{fetchOf, byteAt, addressAt, operandOf};
 use decode::decode;
-use decode::selector_at;
 use decode::instruction::Instruction;
 use decode::instruction::Source;
+use decode::selector_at;
 use space::Space;
 use stop::Fault;
 
@@ -37,7 +37,10 @@ pub(crate) fn fetch<S: Space>(space: &S, at: u16) -> Result<Fetched, Fault>
         Some(selector) => {
             let op = space.read(next)?;
             let instruction = decode(Some(selector), op)?;
-            Ok(Fetched { instruction, next: next.wrapping_add(1) })
+            Ok(Fetched {
+                instruction,
+                next: next.wrapping_add(1),
+            })
         }
     }
 }
@@ -46,7 +49,10 @@ fn read_byte<S: Space>(space: &S, at: u16) -> Result<Operand, Fault>
     ensures { λ r. ⌜ r ≡ byteAt (cells (now (space .entry))) at ⌝ }
 {
     let value = space.read(at)? as u16;
-    Ok(Operand { value, next: at.wrapping_add(1) })
+    Ok(Operand {
+        value,
+        next: at.wrapping_add(1),
+    })
 }
 
 // The low byte comes first.
@@ -56,7 +62,10 @@ fn read_address<S: Space>(space: &S, at: u16) -> Result<Operand, Fault>
     let low = space.read(at)?;
     let next = at.wrapping_add(1);
     let high = space.read(next)?;
-    Ok(Operand { value: u16::from_be_bytes([high, low]), next: next.wrapping_add(1) })
+    Ok(Operand {
+        value: u16::from_be_bytes([high, low]),
+        next: next.wrapping_add(1),
+    })
 }
 
 // The bytes of an instruction after its op code.

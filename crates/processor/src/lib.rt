@@ -2,17 +2,18 @@
 ghost use denote.Ref.{now};
 ghost use mathlib.Core.Path.{_≡_};
 ghost use Rattle.processor.specs.Steps.{stepped, stepOf};
-pub mod fetching;
-pub mod effects;
 
+pub mod effects;
+pub mod fetching;
+
+use effects::execute;
+use fetching::fetch;
+use fetching::fetch_operand;
 use registers::processor::Processor;
 use space::Space;
 use stop::Fault;
 use stop::Trap;
 use times::time_of;
-use effects::execute;
-use fetching::fetch;
-use fetching::fetch_operand;
 
 // A step that counts: its time in nanoseconds, and how it ends the run, if it does.
 #[derive(Clone, Copy)]
@@ -31,7 +32,10 @@ pub fn step<S: Space>(cpu: &mut Processor, space: &mut S) -> Result<Done, Fault>
     let operand = fetch_operand(space, fetched.instruction, fetched.next)?;
     cpu.p = operand.next;
     match execute(cpu, space, fetched.instruction, operand.value) {
-        Ok(carried) => Ok(Done { time: time_of(fetched.instruction, carried.course), trap: carried.trap }),
+        Ok(carried) => Ok(Done {
+            time: time_of(fetched.instruction, carried.course),
+            trap: carried.trap,
+        }),
         Err(fault) => {
             cpu.p = at;
             Err(fault)

@@ -34,7 +34,10 @@ withBank c k =
     record {
       alpha = chosen (c .mode) k (c .alpha);
       beta = chosen (c .mode) (c .beta) k;
-      mode = c .mode; p = c .p; interrupts = c .interrupts; stack = c .stack
+      mode = c .mode;
+      p = c .p;
+      interrupts = c .interrupts;
+      stack = c .stack;
     }
 
 abbrev pub withP : Processor → ℕ → Processor

@@ -4,7 +4,7 @@ ghost use mathlib.Core.Path.{_≡_};
 ghost use Prim.Native.Nat.{ℕ, _+_, _*_, _/_, _%_};
 ghost use Rattle.registers.specs.Banks.{valueIn, withValue, pairIn, withPair, flagIn};
 
-#[derive(Clone, Copy, PartialEq, Eq)]
+#[derive(Clone, Copy)]
 pub enum Register {
     A,
     B,
@@ -17,7 +17,7 @@ pub enum Register {
 }
 
 // Two registers as 16 bits, the high byte first.
-#[derive(Clone, Copy, PartialEq, Eq)]
+#[derive(Clone, Copy)]
 pub enum Pair {
     XA,
     BC,
@@ -25,7 +25,7 @@ pub enum Pair {
     HL,
 }
 
-#[derive(Clone, Copy, PartialEq, Eq)]
+#[derive(Clone, Copy)]
 pub enum Flag {
     Carry,
     Zero,
@@ -33,7 +33,7 @@ pub enum Flag {
     Parity,
 }
 
-#[derive(Clone, Copy, PartialEq, Eq)]
+#[derive(Clone, Copy)]
 pub struct Flags {
     pub carry: bool,
     pub zero: bool,
@@ -41,7 +41,7 @@ pub struct Flags {
     pub parity: bool,
 }
 
-#[derive(Clone, Copy, PartialEq, Eq)]
+#[derive(Clone, Copy)]
 pub struct Bank {
     pub a: u8,
     pub b: u8,

@@ -28,10 +28,31 @@ impl Processor {
     pub fn reset(start: u16) -> Processor
         ensures { λ r. ⌜ r ≡ resetAt start ⌝ }
     {
-        let flags = Flags { carry: false, zero: false, sign: false, parity: false };
-        let bank = Bank { a: 0, b: 0, c: 0, d: 0, e: 0, h: 0, l: 0, x: 0, flags };
-        let stack = Stack { entries: [0; 16], top: 0 };
-        Processor { alpha: bank, beta: bank, mode: Mode::Alpha, p: start, interrupts: false, stack }
+        let flags = Flags {
+            carry: false,
+            zero: false,
+            sign: false,
+            parity: false,
+        };
+        let bank = Bank {
+            a: 0,
+            b: 0,
+            c: 0,
+            d: 0,
+            e: 0,
+            h: 0,
+            l: 0,
+            x: 0,
+            flags,
+        };
+        Processor {
+            alpha: bank,
+            beta: bank,
+            mode: Mode::Alpha,
+            p: start,
+            interrupts: false,
+            stack: Stack::empty(),
+        }
     }
 
     // The bank in use.

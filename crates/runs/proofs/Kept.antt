@@ -182,14 +182,14 @@ missed k a f h = go (eqb k a) refl
     go false e = refl
 
 quiet-store : (s u : Cells) (a b : ℕ) → ((k : ℕ) → Quiet s u k) → (k : ℕ) → Quiet s (storeOf u a b) k
-quiet-store s u a b q k = record
-  { access = q k .access
-  ; takes = q k .takes
-  ; writable = q k .writable
-  ; byte = λ h.
+quiet-store s u a b q k = record {
+  access = q k .access;
+  takes = q k .takes;
+  writable = q k .writable;
+  byte = λ h.
       let no : (u k .access && u k .writable) ≡ false = ap (λ z. z && u k .writable) (q k .access) ∙ ap (λ z. s k .access && z) (q k .writable) ∙ h in
-      ap (λ z. cond z b (u k .byte)) (missed k a (λ y. u y .access && u y .writable) no) ∙ q k .byte h
-  }
+      ap (λ z. cond z b (u k .byte)) (missed k a (λ y. u y .access && u y .writable) no) ∙ q k .byte h;
+}
 
 pub run-quiet : (left n t : ℕ) (c : Processor) (s : Cells) (a : ℕ) → Quiet s (runOf left n t c s .cells) a
 run-quiet left n t c s = run-kept (λ u. (k : ℕ) → Quiet s u k) (λ u a b q. quiet-store s u a b q) left n t c s (λ k. record { access = refl; takes = refl; writable = refl; byte = λ h. refl })

@@ -28,17 +28,17 @@ use Rattle.std.specs.declared.result.Result.the-variants.{Ok, Err}
 module _ (limit : ℕ) (c₀ : Processor) (s₀ : Cells) where
   -- What follows a step that counts: the rest of the run if it goes on.
   trap-ends : (o : Option Trap) (d : Done) (n t left : ℕ) (c : Processor) (s : Cells) → n < limit → Went c₀ s₀ n t c s → stepOf c s .answer ≡ Ok d
-    → d .trap ≡ o
-    → (Went c₀ s₀ (n + 1) (t + d .time) (stepOf c s .cpu) (stepOf c s .cells)
+      → d .trap ≡ o
+      → (Went c₀ s₀ (n + 1) (t + d .time) (stepOf c s .cpu) (stepOf c s .cells)
       → Ends limit c₀ s₀ (runOf left (n + 1) (t + d .time) (stepOf c s .cpu) (stepOf c s .cells)))
-    → Ends limit c₀ s₀ (onTrap o (n + 1) (t + d .time) (runOf left) (stepOf c s .cpu) (stepOf c s .cells))
+      → Ends limit c₀ s₀ (onTrap o (n + 1) (t + d .time) (runOf left) (stepOf c s .cpu) (stepOf c s .cells))
   trap-ends None d n t left c s lt w h q go = go (Went.more d w h q)
   trap-ends (Some e) d n t left c s lt w h q go = Ends.byTrap d e lt w h q
 
   answer-ends : (r : Result Done Fault) (n t left : ℕ) (c : Processor) (s : Cells) → n < limit → Went c₀ s₀ n t c s → stepOf c s .answer ≡ r
-    → ((d : Done) → Went c₀ s₀ (n + 1) (t + d .time) (stepOf c s .cpu) (stepOf c s .cells)
+      → ((d : Done) → Went c₀ s₀ (n + 1) (t + d .time) (stepOf c s .cpu) (stepOf c s .cells)
       → Ends limit c₀ s₀ (runOf left (n + 1) (t + d .time) (stepOf c s .cpu) (stepOf c s .cells)))
-    → Ends limit c₀ s₀ (onAnswer r n t (runOf left) (stepOf c s .cpu) (stepOf c s .cells))
+      → Ends limit c₀ s₀ (onAnswer r n t (runOf left) (stepOf c s .cpu) (stepOf c s .cells))
   answer-ends (Err e) n t left c s lt w h go = Ends.byFault e lt w h
   answer-ends (Ok d) n t left c s lt w h go = trap-ends (d .trap) d n t left c s lt w h refl (go d)
 
@@ -79,7 +79,7 @@ within (Ends.byTrap d x lt w h q) = omega arith
 within (Ends.byFault x lt w h) = omega arith
 
 limited : {limit : ℕ} {c : Processor} {s : Cells} {o : Over} → Ends limit c s o → o .answer .stop ≡ Limit
-  → (o .answer .steps ≡ limit) × Unstopped limit c s
+    → (o .answer .steps ≡ limit) × Unstopped limit c s
 limited (Ends.atLimit w) e = (refl, record { time = _; cpu = _; cells = _; went = w })
 limited (Ends.byTrap d x lt w h q) e = let z : _≡_ {A = ℕ} 0 1 = cc in absurd (omega arith)
 limited (Ends.byFault x lt w h) e = let z : _≡_ {A = ℕ} 0 1 = cc in absurd (omega arith)
@@ -103,8 +103,8 @@ run-laws limit c s o e =
       within = within ends;
       limited = limited ends;
       unstopped = λ u.
-        let y : over Limit limit (u .time) (u .cpu) (u .cells) ≡ o = only (Ends.atLimit (u .went)) ∙ sym e in
-        (sym (ap (λ x. x .answer .steps) y), sym (ap (λ x. x .answer .stop) y))
+          let y : over Limit limit (u .time) (u .cpu) (u .cells) ≡ o = only (Ends.atLimit (u .went)) ∙ sym e in
+          (sym (ap (λ x. x .answer .steps) y), sym (ap (λ x. x .answer .stop) y));
     }
 
 -- A run has at most one system call, and it counts as a step.
@@ -112,12 +112,12 @@ pub run-calls : (limit : ℕ) (c : Processor) (s : Cells) (o : Over) → o ≡ r
 run-calls limit c s o e = calls-within (run-laws limit c s o e .ends)
 
 settled-faulted : (r : Result Carried Fault) (x : Instruction) (at : ℕ) (c : Processor) (s : Cells) (e : Fault) → settled r x at c s .answer ≡ Err e
-  → settled r x at c s .cpu .p ≡ at
+    → settled r x at c s .cpu .p ≡ at
 settled-faulted (Ok d) x at c s e h = let z : _≡_ {A = ℕ} 0 1 = cc in absurd (omega arith)
 settled-faulted (Err f) x at c s e h = refl
 
 carried-faulted : (r : Result Operand Fault) (x : Instruction) (c : Processor) (s : Cells) (e : Fault) → carriedOut r x c s .answer ≡ Err e
-  → carriedOut r x c s .cpu .p ≡ c .p
+    → carriedOut r x c s .cpu .p ≡ c .p
 carried-faulted (Err f) x c s e h = refl
 carried-faulted (Ok o) x c s e h =
     let y : Effect = effectOf x (o .value) (withP c (o .next)) s in settled-faulted (y .answer) x (c .p) (y .cpu) (y .cells) e h
@@ -128,14 +128,14 @@ decoded-faulted (Ok f) c s e h = carried-faulted (operandOf (f .instruction) s (
 
 module _ (c : Processor) (s : Cells) (d : Done) where
   settled-charged : (f : Fetched) (o : Operand) (r : Result Carried Fault) (m : Processor) (u : Cells) → fetchOf s (c .p) ≡ Ok f
-    → operandOf (f .instruction) s (f .next) ≡ Ok o → effectOf (f .instruction) (o .value) (withP c (o .next)) s .answer ≡ r
-    → settled r (f .instruction) (c .p) m u .answer ≡ Ok d → Charged c s d
+      → operandOf (f .instruction) s (f .next) ≡ Ok o → effectOf (f .instruction) (o .value) (withP c (o .next)) s .answer ≡ r
+      → settled r (f .instruction) (c .p) m u .answer ≡ Ok d → Charged c s d
   settled-charged f o (Err e) m u p q x h = let z : _≡_ {A = ℕ} 0 1 = cc in absurd (omega arith)
   settled-charged f o (Ok k) m u p q x h =
       record { fetched = f; operand = o; carried = k; at-p = p; after-op = q; carried-out = x; time = cc; trap = cc }
 
   carried-charged : (f : Fetched) (r : Result Operand Fault) → fetchOf s (c .p) ≡ Ok f → operandOf (f .instruction) s (f .next) ≡ r
-    → carriedOut r (f .instruction) c s .answer ≡ Ok d → Charged c s d
+      → carriedOut r (f .instruction) c s .answer ≡ Ok d → Charged c s d
   carried-charged f (Err e) p q h = let z : _≡_ {A = ℕ} 0 1 = cc in absurd (omega arith)
   carried-charged f (Ok o) p q h =
       let y : Effect = effectOf (f .instruction) (o .value) (withP c (o .next)) s in
@@ -149,5 +149,5 @@ pub step-laws : StepLaws
 step-laws =
     record {
       charged = λ c s d h. decoded-charged c s d (fetchOf s (c .p)) refl h;
-      faulted = λ c s e h. decoded-faulted (fetchOf s (c .p)) c s e h
+      faulted = λ c s e h. decoded-faulted (fetchOf s (c .p)) c s e h;
     }

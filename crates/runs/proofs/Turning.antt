@@ -8,7 +8,7 @@ use Rattle.processor.specs.Steps.{Stepped, stepOf}
 use Rattle.runs.specs.Runs.{onStep, runOf}
 
 pub turn : (limit n t : ℕ) (c : Processor) (s : Cells) (y : Stepped) → n < limit → y ≡ stepOf c s
-  → onStep y n t (runOf (limit - (n + 1))) ≡ runOf (limit - n) n t c s
+    → onStep y n t (runOf (limit - (n + 1))) ≡ runOf (limit - n) n t c s
 turn limit n t c s y h e =
     let next : suc (limit - (n + 1)) ≡ limit - n = omega arith in
     ap (λ x. onStep x n t (runOf (limit - (n + 1)))) e ∙ ap (λ m. runOf m n t c s) next

@@ -23,16 +23,16 @@ use Rattle.std.specs.declared.result.Result.the-variants.{Ok, Err}
 pub data Went (c : Processor) (s : Cells) : ℕ → ℕ → Processor → Cells → Type 0 where
   none : Went c s 0 0 c s
   more : {n t : ℕ} {c′ : Processor} {s′ : Cells} (d : Done) → Went c s n t c′ s′ → stepOf c′ s′ .answer ≡ Ok d → d .trap ≡ None
-    → Went c s (n + 1) (t + d .time) (stepOf c′ s′ .cpu) (stepOf c′ s′ .cells)
+      → Went c s (n + 1) (t + d .time) (stepOf c′ s′ .cpu) (stepOf c′ s′ .cells)
 
 -- How a run may end: at the limit, after exactly that many steps, none of which stops;
 -- by a step that traps, which counts with its time; by a step that faults, which counts for nothing.
 pub data Ends (limit : ℕ) (c : Processor) (s : Cells) : Over → Type 0 where
   atLimit : {t : ℕ} {c′ : Processor} {s′ : Cells} → Went c s limit t c′ s′ → Ends limit c s (over Limit limit t c′ s′)
   byTrap : {n t : ℕ} {c′ : Processor} {s′ : Cells} (d : Done) (e : Trap) → n < limit → Went c s n t c′ s′ → stepOf c′ s′ .answer ≡ Ok d
-    → d .trap ≡ Some e → Ends limit c s (over (Trapped e) (n + 1) (t + d .time) (stepOf c′ s′ .cpu) (stepOf c′ s′ .cells))
+      → d .trap ≡ Some e → Ends limit c s (over (Trapped e) (n + 1) (t + d .time) (stepOf c′ s′ .cpu) (stepOf c′ s′ .cells))
   byFault : {n t : ℕ} {c′ : Processor} {s′ : Cells} (e : Fault) → n < limit → Went c s n t c′ s′ → stepOf c′ s′ .answer ≡ Err e
-    → Ends limit c s (over (Faulted e) n t (stepOf c′ s′ .cpu) (stepOf c′ s′ .cells))
+      → Ends limit c s (over (Faulted e) n t (stepOf c′ s′ .cpu) (stepOf c′ s′ .cells))
 
 -- That many steps can be made from here, none of which stops.
 pub record Unstopped (n : ℕ) (c : Processor) (s : Cells) : Type 0 where

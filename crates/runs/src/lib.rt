@@ -17,14 +17,11 @@ pub struct Ran {
     pub stop: Stop,
 }
 
-// At most `limit` steps. One that traps counts, and one that faults does not.
-pub fn run<S: Space>(cpu: &mut Processor, space: &mut S, limit: u16) -> Ran
+// Step after step; the time fits, since there are at most 65,535 of them.
+fn run_steps<S: Space>(cpu: &mut Processor, space: &mut S, limit: u16) -> Ran
     ensures all { λ r. ⌜ ran r (now (cpu .exit)) (cells (now (space .exit))) ≡ runOf limit 0 0 (now (cpu .entry)) (cells (now (space .entry))) ⌝ }
     ensures kept { λ _. ⌜ frame (now (space .exit)) ≡ frame (now (space .entry)) ⌝ }
     ensures bounded { λ r. ⌜ r .time ≤ r .steps * 4294967295 ⌝ }
-    ensures called { λ r. ⌜ callsIn (r .stop) ≤ r .steps ⌝ }
-    ensures laws { λ r. ⌜ RunLaws limit (now (cpu .entry)) (cells (now (space .entry))) (ran r (now (cpu .exit)) (cells (now (space .exit)))) ⌝ }
-    ensures each { λ _. ⌜ StepLaws ⌝ }
 {
     let mut steps = 0;
     let mut time: u64 = 0;
@@ -34,11 +31,35 @@ pub fn run<S: Space>(cpu: &mut Processor, space: &mut S, limit: u16) -> Ran
                 steps += 1;
                 time += done.time as u64;
                 if let Some(trap) = done.trap {
-                    return Ran { steps, time, stop: Stop::Trapped(trap) };
+                    return Ran {
+                        steps,
+                        time,
+                        stop: Stop::Trapped(trap),
+                    };
                 }
             }
-            Err(fault) => return Ran { steps, time, stop: Stop::Faulted(fault) },
+            Err(fault) => return Ran {
+                steps,
+                time,
+                stop: Stop::Faulted(fault),
+            },
         }
     }
-    Ran { steps, time, stop: Stop::Limit }
+    Ran {
+        steps,
+        time,
+        stop: Stop::Limit,
+    }
+}
+
+// At most `limit` steps. One that traps counts and ends the run, and one that faults ends it and does not count.
+pub fn run<S: Space>(cpu: &mut Processor, space: &mut S, limit: u16) -> Ran
+    ensures all { λ r. ⌜ ran r (now (cpu .exit)) (cells (now (space .exit))) ≡ runOf limit 0 0 (now (cpu .entry)) (cells (now (space .entry))) ⌝ }
+    ensures kept { λ _. ⌜ frame (now (space .exit)) ≡ frame (now (space .entry)) ⌝ }
+    ensures bounded { λ r. ⌜ r .time ≤ r .steps * 4294967295 ⌝ }
+    ensures called { λ r. ⌜ callsIn (r .stop) ≤ r .steps ⌝ }
+    ensures laws { λ r. ⌜ RunLaws limit (now (cpu .entry)) (cells (now (space .entry))) (ran r (now (cpu .exit)) (cells (now (space .exit)))) ⌝ }
+    ensures each { λ _. ⌜ StepLaws ⌝ }
+{
+    run_steps(cpu, space, limit)
 }

@@ -2,11 +2,11 @@
 ghost use mathlib.Core.Path.{_≡_};
 ghost use Prim.Native.Nat.{ℕ, _<_, _≤_};
 ghost use Rattle.times.specs.Times.{operateTimeOf, blockTimeOf, timeOf};
-use registers::bank::Pair;
-use registers::bank::Register;
 use alu::Operation;
 use decode::instruction::Instruction;
 use decode::instruction::Source;
+use registers::bank::Pair;
+use registers::bank::Register;
 
 // What happened in an instruction that its time depends on.
 #[derive(Clone, Copy)]

@@ -1,0 +1,5 @@
+// The engine: eight jobs over a memory that is lent at each call.
+pub mod receipt;
+pub mod jobs;
+pub mod judging;
+pub mod calls;

@@ -1,0 +1,4 @@
+pub mod Settling
+pub mod Seats
+pub mod Landings
+pub mod Tables
