@@ -3,10 +3,11 @@ ghost use denote.Ref.{now};
 ghost use mathlib.Core.Path.{_≡_};
 ghost use mathlib.Core.Bool.{Bool, false};
 ghost use Prim.Native.Nat.{ℕ, _+_, _*_, _<_, _≤_};
+ghost use lib.ListN.{replicate};
 ghost use Rattle.std.specs.Results.{Cases};
 ghost use Rattle.memory.specs.Memories.{Mem};
 ghost use Rattle.runs.specs.Runs.{callsIn};
-ghost use Rattle.model.specs.Jobs.{ranJob};
+ghost use Rattle.model.specs.Jobs.{closedJob, ranJob, stateOf};
 ghost use Rattle.model.specs.Calls.{opens, asks, loads, runs as asksRun, abandons, states};
 ghost use Rattle.model.specs.Acts.{owedBy};
 ghost use Rattle.model.specs.Worlds.{jobsOf, worldOf, newWorld, upd, twice, does};
@@ -55,12 +56,25 @@ fn receipt_for(stop: Stop, job: u8, number: u32) -> Option<Receipt>
     }
 }
 
+fn closed_jobs() -> [Job; 8]
+    ensures { λ r. ⌜ r ≡ replicate 8 closedJob ⌝ }
+{
+    [Job::closed(); 8]
+}
+
+// Puts the state of a record into the buffer.
+fn show(seat: &Job, out: &mut State)
+    ensures { λ _. ⌜ now (out .exit) ≡ stateOf (now (seat .entry)) ⌝ }
+{
+    *out = seat.state();
+}
+
 impl Engine {
     // Eight closed jobs.
     pub fn new() -> Engine
         ensures { λ r. ⌜ ((m : Mem) → worldOf (r .jobs) m ≡ newWorld m) ⌝ }
     {
-        Engine { jobs: [Job::closed(); 8] }
+        Engine { jobs: closed_jobs() }
     }
 
     // Puts another record in a job's place; the other seven stay.
@@ -134,7 +148,7 @@ impl Engine {
         ensures untouched { λ r. ⌜ Cases r (λ _. Unit {0}) (λ _. now (out .exit) ≡ now (out .entry)) ⌝ }
     {
         let record = self.open_record(job)?;
-        *out = record.state();
+        show(&record, out);
         Ok(())
     }
 }

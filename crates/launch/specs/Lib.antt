@@ -1,1 +1,2 @@
 pub mod Launches
+pub mod Lines

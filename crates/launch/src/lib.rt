@@ -9,6 +9,8 @@ ghost use Rattle.image.specs.Parts.{left};
 ghost use Rattle.model.specs.Jobs.{isOpen};
 ghost use Rattle.model.specs.Worlds.{worldOf, jobsOf};
 ghost use Rattle.engine.specs.Answers.{owedOf};
+ghost use Rattle.std.specs.declared.option.Option.the-variants.{Some};
+ghost use Rattle.launch.specs.Lines.{lineOf};
 ghost use Rattle.launch.specs.Launches.{loadedBy, loadsAll, settledBy, Acceptable, launchOf};
 
 use engine::jobs::Engine;
@@ -19,6 +21,8 @@ use image::Image;
 use memory::Memory;
 use model::job::State;
 use refusal::Refusal;
+use runs::Ran;
+use std::fmt;
 use stop::Stop;
 
 // How many steps an image may take.
@@ -32,6 +36,18 @@ pub struct Figure {
     pub a: u8,
 }
 
+// As `stop 2 steps 3 a 8`.
+pub impl fmt::Display for Figure as FigureDisplay {
+    ghost shown = { λ f. Some (lineOf f) };
+
+    fn fmt<W: fmt::Write>(&self, f: &mut fmt::Formatter<W>) -> fmt::Result {
+        let stop = self.stop.number();
+        let steps = self.steps;
+        let a = self.a;
+        write!(f, "stop {stop} steps {steps} a {a}")
+    }
+}
+
 // Loads the blocks into job 0 in their order; the first refusal ends it.
 fn load_all<M: Memory>(engine: &Engine, memory: &mut M, blocks: Blocks) -> Result<(), Refusal>
     ensures { λ r. ⌜ loadedBy r (worldOf (now (engine .entry) .jobs) (mem (now (memory .exit)))) ≡ loadsAll (left (blocks .entry)) (worldOf (now (engine .entry) .jobs) (mem (now (memory .entry)))) ⌝ }
@@ -43,6 +59,19 @@ fn load_all<M: Memory>(engine: &Engine, memory: &mut M, blocks: Blocks) -> Resul
     Ok(())
 }
 
+// A of the bank in use.
+fn a_of(state: &State) -> u8
+    ensures { λ r. ⌜ r ≡ bankOf (now (state .entry) .processor) .a ⌝ }
+{
+    state.processor.bank().a
+}
+
+fn figure_of(run: Ran, a: u8) -> Figure
+    ensures { λ r. ⌜ r ≡ record { stop = run .stop; steps = run .steps; a = a } ⌝ }
+{
+    Figure { stop: run.stop, steps: run.steps, a }
+}
+
 // A of the bank in use of job 0, which is open.
 fn accumulator(engine: &Engine) -> u8
     requires { ⌜ isOpen (jobsOf (now engine .jobs) 0 .status) ≡ true ⌝ }
@@ -50,7 +79,7 @@ fn accumulator(engine: &Engine) -> u8
 {
     let mut state = State::blank();
     match engine.state(0, &mut state) {
-        Ok(()) => state.processor.bank().a,
+        Ok(()) => a_of(&state),
         Err(_) => unreachable(),
     }
 }
@@ -78,7 +107,7 @@ pub fn launch<M: Memory>(file: &[u8], memory: &mut M) -> Result<Figure, Refusal>
     engine.open(memory, 0, image.table(), image.start())?;
     load_all(&engine, memory, image.blocks())?;
     let Outcome { run, receipt } = engine.run(memory, 0, LIMIT)?;
-    let figure = Figure { stop: run.stop, steps: run.steps, a: accumulator(&engine) };
+    let figure = figure_of(run, accumulator(&engine));
     abandon_owed(&mut engine, receipt);
     Ok(figure)
 }

@@ -9,6 +9,7 @@ use refusal::Refusal;
 
 pub mod page;
 pub mod numbers;
+pub mod sectors;
 pub mod sets;
 
 use page::Page;

@@ -1,13 +1,12 @@
-// Making page and sector numbers.
+// Making page numbers.
 ghost use mathlib.Core.Path.{_≡_};
 ghost use Prim.Native.Nat.{ℕ, _+_, _*_, _/_, _%_};
 ghost use Rattle.memory.specs.Memories.{sixteenth, pageAt};
-ghost use Rattle.memory.specs.Numbers.{pageNumber, sectorNumber};
+ghost use Rattle.memory.specs.Numbers.{pageNumber};
 
 use refusal::Ground;
 use refusal::Refusal;
 use super::page::Page;
-use super::page::Sector;
 
 impl Page {
     // Refused with 15 at 0 above fifteen.
@@ -34,28 +33,6 @@ impl Page {
     pub fn address(self, at: u16) -> u16
         ensures { λ r. ⌜ r ≡ self .number * 4096 + at % 4096 ⌝ }
     {
-        self.number as u16 * 4096 + at % 4096
-    }
-}
-
-impl Sector {
-    // Refused with 15 at 0 above fifteen.
-    pub fn new(number: u8) -> Result<Sector, Refusal>
-        ensures { λ r. ⌜ sectorNumber r ≡ sixteenth number ⌝ }
-    {
-        if number < 16 { Ok(Sector { number }) } else { Err(Ground::OutOfRange.at(0)) }
-    }
-
-    // The sector of a job's address.
-    pub fn of(at: u16) -> Sector
-        ensures { λ r. ⌜ r .number ≡ at / 4096 ⌝ }
-    {
-        Sector { number: (at / 4096) as u8 }
-    }
-
-    pub fn number(self) -> u8
-        ensures { λ r. ⌜ r ≡ self .number ⌝ }
-    {
-        self.number
+        u16::from(self.number) * 4096 + at % 4096
     }
 }

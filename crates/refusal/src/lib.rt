@@ -3,6 +3,8 @@ ghost use denote.Ref.{now};
 ghost use mathlib.Core.Path.{_≡_};
 ghost use Prim.Native.Nat.{ℕ};
 ghost use Rattle.refusal.specs.Grounds.{numberOf, refusalOf};
+ghost use Rattle.std.specs.declared.option.Option.the-variants.{Some};
+ghost use Rattle.refusal.specs.Lines.{lineOf};
 ghost use Rattle.refusal.specs.Judging.{when, at as atPlace};
 use std::fmt;
 
@@ -102,7 +104,10 @@ impl Ground {
     }
 }
 
+// As `refused 2 at 0`: number and place.
 pub impl fmt::Display for Refusal as RefusalDisplay {
+    ghost shown = { λ r. Some (lineOf r) };
+
     fn fmt<W: fmt::Write>(&self, f: &mut fmt::Formatter<W>) -> fmt::Result {
         let number = self.ground.number();
         let place = self.place;

@@ -1,6 +1,7 @@
 // run5500: reads one image from standard input, runs it as job 0 over a zeroed single board, and prints one line.
 use boards::single::Filling;
 use boards::single::SingleBoardMemory;
+use launch::FigureDisplay;
 use launch::launch;
 use memory::sets::PageSet;
 use refusal::RefusalDisplay;
@@ -34,10 +35,7 @@ fn main(rt: LibcRuntime) -> Result<(), AnyError> {
     let mut bytes = vec![in rt.alloc(); 0u8; 65536]?;
     let mut board = Filling::new().seal(PageSet::none()).board(&mut bytes);
     match launch(&file, &mut board) {
-        Ok(figure) => {
-            let stop = figure.stop.number();
-            println!(rt, "stop {stop} steps {} a {}", figure.steps, figure.a)?;
-        }
+        Ok(figure) => println!(rt, "{figure}")?,
         Err(refusal) => println!(rt, "{refusal}")?,
     }
     Ok(())

@@ -11,4 +11,4 @@ unreachable-requires c κs = state-kept (worldOf (c .args .engine .now .jobs) no
 pub returns : need.returns
 returns c =
     let told = state-is (worldOf (c .args .engine .now .jobs) no-mem) _ (c .state .last .out) (c .pre) (c .in-Ok .ensures tt .world no-mem) in
-    ap (λ k. k .a) (c .bank .ensures) ∙ ap (λ (s : State). bankOf (s .processor) .a) told
+    c .a-of .ensures ∙ ap (λ (s : State). bankOf (s .processor) .a) told

@@ -99,7 +99,8 @@ returns g c =
       (c .in-Continue-load-all .ensures tt ∙ ap (λ (bs : List BlockOf). loadsAll bs v) (c .blocks-2 .ensures)) t r o (c .in-Continue-run .ensures tt) in
     record {
       answer =
-        ap {B = Result Figure Refusal} (λ a. Ok (record { stop = r .stop; steps = r .steps; a = a })) (c .accumulator .ensures)
+        ap {B = Result Figure Refusal} (λ (f : Figure). Ok f) (c .figure-of-figure .ensures)
+        ∙ ap {B = Result Figure Refusal} (λ a. Ok (record { stop = r .stop; steps = r .steps; a = a })) (c .accumulator .ensures)
         ∙ sym (ap (λ (l : Launched). l .answer) all);
       after = sym (ap (λ (l : Launched). l .world .mem) all ∙ settled-mem o t)
     }

@@ -1,18 +1,19 @@
 use mathlib.Core.Path.{_≡_, ap, subst, sym}
-use Prim.Native.Nat.{ℕ, _*_, _≤_}
 use mathlib.Core.Bool.{false}
-use lib.ListN.{replicate}
+use mathlib.Core.List.{List}
+use Prim.Native.Nat.{ℕ, _*_, _≤_}
 use Rattle.model.specs.declared.job.Job.{Job}
-use Rattle.model.specs.Worlds.{World, worldOf, jobsOf, twice}
+use Rattle.model.specs.Worlds.{worldOf, jobsOf, twice}
 use Rattle.model.proofs.Seats.{new-once, new-timed, new-called}
 use Rattle.engine.proofs.jobs.Engine.new.Needs as need
 
 pub returns : need.returns
-returns c = λ m. ap (λ (b : Job). worldOf (replicate 8 b) m) (c .closed .ensures)
+returns c = λ m. ap (λ (js : List Job). worldOf js m) (c .closed-jobs .ensures)
 
 pub ghost-result : need.ghost-result
 ghost-result c =
-    ( subst (λ (b : Job). (j : ℕ) → twice (jobsOf (replicate 8 b) j .table) ≡ false) (sym (c .closed .ensures)) new-once
-    , (subst (λ (b : Job). (j : ℕ) → jobsOf (replicate 8 b) j .time ≤ jobsOf (replicate 8 b) j .steps * 4294967295) (sym (c .closed .ensures)) new-timed
-    , (subst (λ (b : Job). (j : ℕ) → jobsOf (replicate 8 b) j .calls ≤ jobsOf (replicate 8 b) j .steps) (sym (c .closed .ensures)) new-called
+    let e = sym (c .closed-jobs .ensures) in
+    ( subst (λ (js : List Job). (j : ℕ) → twice (jobsOf js j .table) ≡ false) e new-once
+    , (subst (λ (js : List Job). (j : ℕ) → jobsOf js j .time ≤ jobsOf js j .steps * 4294967295) e new-timed
+    , (subst (λ (js : List Job). (j : ℕ) → jobsOf js j .calls ≤ jobsOf js j .steps) e new-called
     , tt)))

@@ -38,6 +38,6 @@ returns c =
       world = λ m.
         let w : World = worldOf (c .args .self .now .jobs) m in
         accepts j states w (took .0) ∙ settles-answer j w (told (stateOf b))
-        ∙ ap {B = Done} (λ (s : State). record { world = w; answer = told s }) (sym (c .state .ensures ∙ ap stateOf (took .1)));
+        ∙ ap {B = Done} (λ (s : State). record { world = w; answer = told s }) (sym (c .show .ensures ∙ ap stateOf (took .1)));
       untouched = tt
     }
