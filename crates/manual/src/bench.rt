@@ -7,16 +7,30 @@ ghost use Rattle.model.specs.Worlds.{jobsOf};
 ghost use Rattle.engine.specs.Answers.{owedOf};
 ghost use Rattle.launch.specs.Launches.{Acceptable};
 
+use boards::single::Filling;
+use boards::single::SingleBoard;
 use engine::jobs::Engine;
 use engine::receipt::Outcome;
 use engine::receipt::Receipt;
 use memory::Memory;
+use memory::sets::PageSet;
 use model::job::State;
 use refusal::Refusal;
 use runs::Ran;
+use std::alloc::AllocError;
 
 // Sector 0 is page 0 and may be written, sector 1 is page 1 and may not; the rest give no access.
 pub const TABLE: [u8; 15] = [12, 20, 0, 0, 0, 0, 0, 0, 0, 0, 0, 0, 0, 0, 0];
+
+// The buffer of a board.
+pub fn zeros(rt: &LibcRuntime) -> Result<Vec<u8>, AllocError> {
+    vec![in rt.alloc(); 0u8; 65536]
+}
+
+// A board over it with no page sealed.
+pub fn plain<'a>(bytes: &'a mut [u8]) -> SingleBoard<'a> {
+    Filling::new().seal(PageSet::none()).board(bytes)
+}
 
 // What is seen of a run: its answer, the job's state after it, and the number on the receipt, or 0.
 #[derive(Clone, Copy)]
@@ -52,10 +66,10 @@ pub fn watch<M: Memory>(engine: &mut Engine, memory: &mut M, limit: u16) -> Resu
     Ok(Seen { run, state, owed })
 }
 
-// A program over a memory, for at most 1,000 steps.
-pub fn trial<M: Memory>(memory: &mut M, program: &[u8]) -> Result<Seen, Refusal> {
+// A program over a memory, for at most so many steps.
+pub fn trial<M: Memory>(memory: &mut M, program: &[u8], limit: u16) -> Result<Seen, Refusal> {
     let mut engine = Engine::new();
     engine.open(memory, 0, TABLE, 0)?;
     engine.load(memory, 0, 0, program)?;
-    watch(&mut engine, memory, 1000)
+    watch(&mut engine, memory, limit)
 }

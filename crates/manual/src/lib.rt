@@ -3,3 +3,13 @@
 mod bench;
 #[cfg(test)]
 mod figures;
+#[cfg(test)]
+mod images;
+#[cfg(test)]
+mod owing;
+#[cfg(test)]
+mod refusals;
+#[cfg(test)]
+mod samples;
+#[cfg(test)]
+mod stops;
