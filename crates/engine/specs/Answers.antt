@@ -1,4 +1,5 @@
 -- What a call's result says, as an answer.
+use mathlib.Core.List.{List}
 use Prim.Native.Nat.{ℕ}
 use Rattle.std.specs.declared.option.Option.{Option}
 use Rattle.std.specs.declared.option.Option.the-variants.{None, Some}
@@ -6,7 +7,7 @@ use Rattle.std.specs.declared.result.Result.{Result}
 use Rattle.std.specs.declared.result.Result.the-variants.{Ok, Err}
 use Rattle.refusal.specs.declared.Refusal.{Refusal}
 use Rattle.model.specs.declared.job.State.{State}
-use Rattle.model.specs.Calls.{Owed, Answer, refused, done, ran, told}
+use Rattle.model.specs.Calls.{Owed, Answer, refused, done, ran, saw, told}
 use Rattle.engine.specs.declared.receipt.Receipt.{Receipt}
 use Rattle.engine.specs.declared.receipt.Outcome.{Outcome}
 use Rattle.engine.specs.declared.receipt.Returned.{Returned}
@@ -32,3 +33,8 @@ returnedAnswer (Err e) = refused (e .refusal)
 abbrev pub stateAnswer : Result (Unit {0}) Refusal → State → Answer
 stateAnswer (Ok u) s = told s
 stateAnswer (Err e) s = refused e
+
+-- What a look saw is what the buffer then holds.
+abbrev pub lookAnswer : Result (Unit {0}) Refusal → List ℕ → Answer
+lookAnswer (Ok u) bs = saw bs
+lookAnswer (Err e) bs = refused e

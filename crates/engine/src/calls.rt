@@ -3,24 +3,27 @@ ghost use denote.Ref.{now};
 ghost use mathlib.Core.Path.{_≡_};
 ghost use mathlib.Core.Bool.{Bool, false};
 ghost use Prim.Native.Nat.{ℕ, _+_, _*_, _<_, _≤_};
-ghost use lib.ListN.{replicate};
+ghost use lib.ListN.{length, replicate};
 ghost use Rattle.std.specs.Results.{Cases};
 ghost use Rattle.memory.specs.Memories.{Mem};
 ghost use Rattle.runs.specs.Runs.{callsIn};
 ghost use Rattle.model.specs.Jobs.{closedJob, ranJob, stateOf};
-ghost use Rattle.model.specs.Calls.{opens, asks, loads, runs as asksRun, abandons, states};
+ghost use Rattle.model.specs.Calls.{opens, asks, loads, runs as asksRun, replies, abandons, looks, states, closes};
 ghost use Rattle.model.specs.Acts.{owedBy};
 ghost use Rattle.model.specs.Worlds.{jobsOf, worldOf, newWorld, upd, twice, does};
-ghost use Rattle.engine.specs.Answers.{doneAnswer, owedOf, ranAnswer, returnedAnswer, stateAnswer};
+ghost use Rattle.engine.specs.Answers.{doneAnswer, owedOf, ranAnswer, returnedAnswer, lookAnswer, stateAnswer};
+ghost use Rattle.protection.specs.Protection.{Protected};
 
 use memory::Memory;
 use model::job::Job;
+use model::job::Registers;
 use model::job::State;
 use model::records::calls_in;
 use model::records::status_after;
 use model::running::run_job;
 use pages::clearing::clear_pages;
 use pages::loading;
+use pages::looking;
 use refusal::Refusal;
 use runs::Ran;
 use stop::Stop;
@@ -56,6 +59,16 @@ fn receipt_for(stop: Stop, job: u8, number: u32) -> Option<Receipt>
     }
 }
 
+// The record of a job that is not open, which any number may have.
+fn vacant() -> Job
+    ensures value { λ r. ⌜ r ≡ closedJob ⌝ }
+    ensures once { λ r. ⌜ twice (r .table) ≡ false ⌝ }
+    ensures timed { λ r. ⌜ r .time ≤ r .steps * 4294967295 ⌝ }
+    ensures called { λ r. ⌜ r .calls ≤ r .steps ⌝ }
+{
+    Job::closed()
+}
+
 fn closed_jobs() -> [Job; 8]
     ensures { λ r. ⌜ r ≡ replicate 8 closedJob ⌝ }
 {
@@ -70,9 +83,10 @@ fn show(seat: &Job, out: &mut State)
 }
 
 impl Engine {
-    // Eight closed jobs.
+    // Eight closed jobs. The jobs that are opened in it are protected from one another.
     pub fn new() -> Engine
-        ensures { λ r. ⌜ ((m : Mem) → worldOf (r .jobs) m ≡ newWorld m) ⌝ }
+        ensures world { λ r. ⌜ ((m : Mem) → worldOf (r .jobs) m ≡ newWorld m) ⌝ }
+        ensures protected { λ _. ⌜ Protected ⌝ }
     {
         Engine { jobs: closed_jobs() }
     }
@@ -86,6 +100,22 @@ impl Engine {
         ensures { λ _. ⌜ jobsOf (now (self .exit) .jobs) ≡ upd (jobsOf (now (self .entry) .jobs)) job new ⌝ }
     {
         self.jobs[job as usize] = new;
+    }
+
+    // Leaves the number vacant; the pages are free for others.
+    fn vacate(&mut self, job: u8)
+        requires { ⌜ job < 8 ⌝ }
+        ensures { λ _. ⌜ jobsOf (now (self .exit) .jobs) ≡ upd (jobsOf (now (self .entry) .jobs)) job closedJob ⌝ }
+    {
+        self.set_record(job, vacant());
+    }
+
+    // The number of the job's latest system call: each job counts its own.
+    fn latest_call(&self, job: u8) -> u32
+        requires { ⌜ job < 8 ⌝ }
+        ensures { λ r. ⌜ r ≡ jobsOf (now (self .entry) .jobs) job .calls ⌝ }
+    {
+        self.record(job).calls
     }
 
     // The table of a job's record, which names no page twice.
@@ -124,7 +154,24 @@ impl Engine {
         let run = run_job(memory, table, &mut record.processor, limit);
         count(&mut record, run);
         self.set_record(job, record);
-        Ok(Outcome { run, receipt: receipt_for(run.stop, job, record.calls) })
+        let number = self.latest_call(job);
+        Ok(Outcome { run, receipt: receipt_for(run.stop, job, number) })
+    }
+
+    // Sets the eight registers of the bank in use of a job that waits for this receipt, and makes it ready:
+    // refused with 4, 6 and 14, with the receipt handed back.
+    pub fn reply(&mut self, receipt: Receipt, registers: Registers) -> Result<(), Returned>
+        ensures world { λ r. ⌜ ((m : Mem) → does (asks (receipt .job) (replies (receipt .number) registers)) (worldOf (now (self .entry) .jobs) m) ≡ record { world = worldOf (now (self .exit) .jobs) m; answer = returnedAnswer r }) ⌝ }
+        ensures handed { λ r. ⌜ Cases r (λ _. Unit {0}) (λ e. e .receipt ≡ receipt) ⌝ }
+    {
+        match self.owing_record(&receipt) {
+            Err(refusal) => Err(Returned { refusal, receipt }),
+            Ok(record) => {
+                let Receipt { job, number: _ } = receipt;
+                self.set_record(job, record.replied(registers));
+                Ok(())
+            }
+        }
     }
 
     // Closes a job that waits for this receipt: refused with 4, 6 and 14, with the receipt handed back.
@@ -136,7 +183,7 @@ impl Engine {
             Err(refusal) => Err(Returned { refusal, receipt }),
             Ok(_) => {
                 let Receipt { job, number: _ } = receipt;
-                self.set_record(job, Job::closed());
+                self.vacate(job);
                 Ok(())
             }
         }
@@ -149,6 +196,24 @@ impl Engine {
     {
         let record = self.open_record(job)?;
         show(&record, out);
+        Ok(())
+    }
+
+    // Fills the whole buffer with the job's bytes from an address on: refused with 4, 6, 15 and 16, with the buffer as it was.
+    pub fn look<M: Memory>(&self, memory: &M, job: u8, at: u16, out: &mut [u8]) -> Result<(), Refusal>
+        ensures world { λ r. ⌜ does (asks job (looks at (length (now (out .entry))))) (worldOf (now (self .entry) .jobs) (mem (now (memory .entry)))) ≡ record { world = worldOf (now (self .entry) .jobs) (mem (now (memory .entry))); answer = lookAnswer r (now (out .exit)) } ⌝ }
+        ensures untouched { λ r. ⌜ Cases r (λ _. Unit {0}) (λ _. now (out .exit) ≡ now (out .entry)) ⌝ }
+    {
+        let record = self.open_record(job)?;
+        looking::look(&record.table, memory, at, out)
+    }
+
+    // Closes a job that is not waiting; its pages keep their bytes: refused with 4, 6 and 11.
+    pub fn close(&mut self, job: u8) -> Result<(), Refusal>
+        ensures { λ r. ⌜ ((m : Mem) → does (asks job closes) (worldOf (now (self .entry) .jobs) m) ≡ record { world = worldOf (now (self .exit) .jobs) m; answer = doneAnswer r }) ⌝ }
+    {
+        self.idle_record(job)?;
+        self.vacate(job);
         Ok(())
     }
 }

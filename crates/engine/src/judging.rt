@@ -1,9 +1,11 @@
 // The grounds of the calls, judged in their order.
 ghost use denote.Ref.{now};
 ghost use mathlib.Core.Path.{_≡_};
-ghost use mathlib.Core.Bool.{Bool};
+ghost use mathlib.Core.Bool.{Bool, not, _&&_};
+ghost use lib.Dec.{eqb};
+ghost use Rattle.pages.specs.Held.{holds};
 ghost use Prim.Native.Nat.{ℕ, _<_};
-ghost use Rattle.model.specs.Acts.{judgeOpenJob, judgeRun, judgeReceipt};
+ghost use Rattle.model.specs.Acts.{judgeOpenJob, judgeRun, judgeReceipt, judgeClose};
 ghost use Rattle.model.specs.Worlds.{jobsOf, worldOf, heldBy, heldAt, judgeOpen};
 ghost use Rattle.engine.specs.Judges.{recordOr};
 
@@ -48,10 +50,18 @@ impl Engine {
     pub(crate) fn ready_record(&self, job: u8, limit: u16) -> Result<Job, Refusal>
         ensures { λ r. ⌜ r ≡ recordOr (judgeRun job limit) (jobsOf (now (self .entry) .jobs) job) ⌝ }
     {
-        let record = self.open_record(job)?;
-        Ground::JobWaiting.refuse_if(record.status.is_waiting())?;
+        let record = self.idle_record(job)?;
         Ground::JobEnded.refuse_if(record.status.is_ended())?;
         Ground::TooManySteps.refuse_if(record.steps > u32::MAX - limit as u32)?;
+        Ok(record)
+    }
+
+    // The record of a job that is not waiting: refused with 4, 6 and 11.
+    pub(crate) fn idle_record(&self, job: u8) -> Result<Job, Refusal>
+        ensures { λ r. ⌜ r ≡ recordOr (judgeClose job) (jobsOf (now (self .entry) .jobs) job) ⌝ }
+    {
+        let record = self.open_record(job)?;
+        Ground::JobWaiting.refuse_if(record.status.is_waiting())?;
         Ok(record)
     }
 
@@ -64,14 +74,22 @@ impl Engine {
         Ok(record)
     }
 
+    // Whether the job `k` is another than `job` and holds the page.
+    fn other_holds(&self, k: u8, job: u8, page: Page) -> bool
+        requires { ⌜ k < 8 ⌝ }
+        ensures { λ r. ⌜ r ≡ (not (eqb k job) && holds (jobsOf (now (self .entry) .jobs) k .table) (page .number)) ⌝ }
+    {
+        let record = self.record(k);
+        k != job && names_page(&record.table, 15, page)
+    }
+
     // Whether another job than `job` holds the page: looks at all eight.
     fn held_by_other(&self, job: u8, page: Page) -> bool
         ensures { λ r. ⌜ r ≡ heldBy 8 (jobsOf (now (self .entry) .jobs)) job (page .number) ⌝ }
     {
         let mut found = false;
         for k in 0..8u8 {
-            let record = self.record(k);
-            if k != job && names_page(&record.table, 15, page) {
+            if self.other_holds(k, job, page) {
                 found = true;
             }
         }

@@ -24,7 +24,7 @@ use Rattle.model.specs.declared.job.State.{State}
 use Rattle.model.specs.declared.job.Status.{Status}
 use Rattle.model.specs.declared.job.Status.the-variants.{Waiting}
 use Rattle.model.specs.Jobs.{closedJob, isOpen, isWaiting, statusAfter, ranJob, stateOf}
-use Rattle.model.specs.Calls.{asks, runs, states, abandons, Owed, Answer, refused, done, ran, told}
+use Rattle.model.specs.Calls.{asks, runs, states, abandons, Owed, Answer, refused, done, ran, saw, told}
 use Rattle.model.specs.Acts.{owedBy, ranLeft, judgeAsk, judgeOpenJob, judgeReceipt}
 use Rattle.model.specs.Worlds.{World, Done, spaceAt, upd, settle, does}
 use Rattle.model.proofs.Settling.{upd-same, refuses, accepts, settles-record, settles-answer}
@@ -36,9 +36,7 @@ kind (refused e) = 0
 kind done = 1
 kind (ran r o) = 2
 kind (told s) = 3
-
-apart : {A : Type 0} (m n : ℕ) → m ≡ n → (m ≡ n → ⊥) → A
-apart m n e d = absurd (d e)
+kind (saw bs) = 4
 
 pub refused-ran : {A : Type 0} (e : Refusal) (r : Ran) (o : Option Owed) → refused e ≡ ran r o → A
 unfolding kind

@@ -12,7 +12,7 @@ use Rattle.memory.specs.Memories.{Mem}
 use Rattle.registers.specs.Processors.{bankOf}
 use Rattle.runs.specs.declared.Ran.{Ran}
 use Rattle.image.specs.Files.{BlockOf, Parsed, imageOf}
-use Rattle.model.specs.Calls.{asks, opens, loads, runs, abandons, Owed, Answer, refused, done, ran, told}
+use Rattle.model.specs.Calls.{asks, opens, loads, runs, abandons, Owed, Answer, refused, done, ran, saw, told}
 use Rattle.model.specs.declared.job.Job.{Job}
 use Rattle.model.specs.Acts.{judgeReceipt}
 use Rattle.model.specs.Worlds.{World, Done, newWorld, does}
@@ -23,6 +23,7 @@ abbrev pub byAnswer : {X : Type 0} → Answer → (Refusal → X) → X → X
 byAnswer (refused e) stop next = stop e
 byAnswer done stop next = next
 byAnswer (ran r o) stop next = next
+byAnswer (saw bs) stop next = next
 byAnswer (told s) stop next = next
 
 -- Whether all blocks were loaded, and the world then.
@@ -54,12 +55,14 @@ abbrev pub ranIn : Answer → Ran
 ranIn (ran r o) = r
 ranIn (refused e) = record { steps = 0; time = 0; stop = Limit }
 ranIn done = record { steps = 0; time = 0; stop = Limit }
+ranIn (saw bs) = record { steps = 0; time = 0; stop = Limit }
 ranIn (told s) = record { steps = 0; time = 0; stop = Limit }
 
 abbrev pub owedIn : Answer → Option Owed
 owedIn (ran r o) = o
 owedIn (refused e) = None
 owedIn done = None
+owedIn (saw bs) = None
 owedIn (told s) = None
 
 -- What is owed is abandoned.

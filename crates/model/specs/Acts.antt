@@ -17,9 +17,10 @@ use Rattle.runs.specs.declared.Ran.{Ran}
 use Rattle.runs.specs.Runs.{Over, runOf}
 use Rattle.pages.specs.Held.{bytesOf}
 use Rattle.pages.specs.Loads.{judgeLoad, laid}
+use Rattle.pages.specs.Looks.{judgeLook, seen}
 use Rattle.model.specs.declared.job.Job.{Job}
-use Rattle.model.specs.Jobs.{closedJob, isOpen, isWaiting, isEnded, ranJob, stateOf}
-use Rattle.model.specs.Calls.{Ask, loads, runs, abandons, states, Owed, Answer, refused, done, ran, told}
+use Rattle.model.specs.Jobs.{closedJob, isOpen, isWaiting, isEnded, ranJob, repliedJob, stateOf}
+use Rattle.model.specs.Calls.{Ask, loads, runs, replies, abandons, looks, states, closes, Owed, Answer, refused, done, ran, saw, told}
 
 -- What an act leaves: the job's record, the bytes that its addresses hold, and the answer.
 pub record Left : Type 0 where
@@ -65,11 +66,17 @@ judgeRun j limit b = first (noSuchJob j ∷ notOpen b ∷ waits b ∷ ended b �
 abbrev pub judgeReceipt : ℕ → ℕ → Job → Judgement
 judgeReceipt j number b = first (noSuchJob j ∷ notOpen b ∷ notOwed b number ∷ [])
 
+abbrev pub judgeClose : ℕ → Job → Judgement
+judgeClose j b = first (noSuchJob j ∷ notOpen b ∷ waits b ∷ [])
+
 abbrev pub judgeAsk : ℕ → Ask → Job → Cells → Judgement
 judgeAsk j (loads a bs) b s = first (noSuchJob j ∷ notOpen b ∷ judgeLoad a bs s ∷ [])
 judgeAsk j (runs limit) b s = judgeRun j limit b
+judgeAsk j (replies number r) b s = judgeReceipt j number b
 judgeAsk j (abandons number) b s = judgeReceipt j number b
+judgeAsk j (looks a count) b s = first (noSuchJob j ∷ notOpen b ∷ judgeLook a count s ∷ [])
 judgeAsk j states b s = judgeOpenJob j b
+judgeAsk j closes b s = judgeClose j b
 
 -- A system call is owed a reply: the receipt has its number, counted since the opening with this call in it.
 abbrev pub owedByTrap : Trap → ℕ → ℕ → Option Owed
@@ -93,8 +100,11 @@ ranLeft j b o =
 abbrev pub effectOf : ℕ → Ask → Act
 effectOf j (loads a bs) b s = record { job = b; bytes = laid a bs (bytesOf s); answer = done }
 effectOf j (runs limit) b s = ranLeft j b (runOf limit 0 0 (b .processor) s)
-effectOf j (abandons number) b s = record { job = closedJob; bytes = bytesOf s; answer = done }
+effectOf j (replies number r) b s = says done (repliedJob b r) s
+effectOf j (abandons number) b s = says done closedJob s
+effectOf j (looks a count) b s = says (saw (seen count a s)) b s
 effectOf j states b s = says (told (stateOf b)) b s
+effectOf j closes b s = says done closedJob s
 
 abbrev pub unless : Judgement → Act → Act
 unless (Err r) f b s = says (refused r) b s

@@ -5,7 +5,8 @@ use Prim.Native.Nat.{ℕ, _+_}
 use mathlib.Core.List.{List, [], _∷_}
 use lib.ListN.{getD, replicate}
 use Rattle.registers.specs.declared.processor.Processor.{Processor}
-use Rattle.registers.specs.Processors.{resetAt}
+use Rattle.registers.specs.declared.bank.Bank.{Bank}
+use Rattle.registers.specs.Processors.{resetAt, bankOf, withBank}
 use Rattle.stop.specs.declared.Trap.{Trap}
 use Rattle.stop.specs.declared.Trap.the-variants.{Halt, SystemCall, Breakpoint}
 use Rattle.stop.specs.declared.Stop.{Stop}
@@ -14,6 +15,7 @@ use Rattle.runs.specs.declared.Ran.{Ran}
 use Rattle.runs.specs.Runs.{callsIn}
 use Rattle.pages.specs.Held.{Table}
 use Rattle.model.specs.declared.job.Job.{Job}
+use Rattle.model.specs.declared.job.Registers.{Registers}
 use Rattle.model.specs.declared.job.State.{State}
 use Rattle.model.specs.declared.job.Status.{Status}
 use Rattle.model.specs.declared.job.Status.the-variants.{Closed, Ready, Waiting, Ended}
@@ -69,3 +71,14 @@ ranJob b r c =
 
 abbrev pub stateOf : Job → State
 stateOf b = record { processor = b .processor; steps = b .steps; time = b .time; calls = b .calls; status = b .status }
+
+-- The eight registers of the bank in use, with its flags as they were: a reply.
+abbrev pub withRegisters : Bank → Registers → Bank
+withRegisters k r = record { a = r .a; b = r .b; c = r .c; d = r .d; e = r .e; h = r .h; l = r .l; x = r .x; flags = k .flags }
+
+abbrev pub repliedJob : Job → Registers → Job
+repliedJob b r =
+    record {
+      processor = withBank (b .processor) (withRegisters (bankOf (b .processor)) r); table = b .table;
+      steps = b .steps; time = b .time; calls = b .calls; status = Ready
+    }

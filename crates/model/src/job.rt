@@ -28,3 +28,16 @@ pub struct State {
     pub calls: u32,
     pub status: Status,
 }
+
+// The eight registers of a bank, as a reply gives them.
+#[derive(Clone, Copy, PartialEq, Eq, Debug)]
+pub struct Registers {
+    pub a: u8,
+    pub b: u8,
+    pub c: u8,
+    pub d: u8,
+    pub e: u8,
+    pub h: u8,
+    pub l: u8,
+    pub x: u8,
+}

@@ -3,12 +3,14 @@ ghost use denote.Ref.{now};
 ghost use mathlib.Core.Path.{_≡_};
 ghost use Rattle.stop.specs.Stops.{numberOf};
 ghost use Rattle.runs.specs.Runs.{callsIn};
-ghost use Rattle.model.specs.Jobs.{closedJob, openedJob, stateOf, statusAfter, statusByNumber, isOpen as openStatus, isWaiting as waitingStatus, isEnded as endedStatus};
+ghost use Rattle.model.specs.Jobs.{closedJob, openedJob, repliedJob, stateOf, statusAfter, statusByNumber, isOpen as openStatus, isWaiting as waitingStatus, isEnded as endedStatus};
 
+use registers::bank::Bank;
 use registers::processor::Processor;
 use stop::Stop;
 use stop::Trap;
 use super::job::Job;
+use super::job::Registers;
 use super::job::State;
 use super::job::Status;
 
@@ -78,6 +80,17 @@ impl Job {
         ensures { λ r. ⌜ r ≡ openedJob table start ⌝ }
     {
         Job { processor: Processor::reset(start), table, steps: 0, time: 0, calls: 0, status: Status::Ready }
+    }
+
+    // The job with a reply in the bank in use, whose flags stay, ready to go on.
+    pub fn replied(mut self, registers: Registers) -> Job
+        ensures { λ r. ⌜ r ≡ repliedJob self registers ⌝ }
+    {
+        let Registers { a, b, c, d, e, h, l, x } = registers;
+        let flags = self.processor.bank().flags;
+        self.processor.set_bank(Bank { a, b, c, d, e, h, l, x, flags });
+        self.status = Status::Ready;
+        self
     }
 
     // What the job shows of itself.

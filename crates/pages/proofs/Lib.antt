@@ -2,3 +2,4 @@ pub mod Truths
 pub mod Spaces
 pub mod Clears
 pub mod Lays
+pub mod Seen

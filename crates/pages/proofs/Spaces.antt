@@ -85,7 +85,7 @@ at-sector t i x page =
     let sect : (i * 4096 + x % 4096) / 4096 ≡ i = omega arith in
     ap (λ u. pageOf t u * 4096 + (i * 4096 + x % 4096) % 4096) sect ∙ omega arith
 
-in-sector : (i x : ℕ) → (i * 4096 + x % 4096) / 4096 ≡ i
+pub in-sector : (i x : ℕ) → (i * 4096 + x % 4096) / 4096 ≡ i
 in-sector i x = omega arith
 
 -- The byte of a memory that was written back: where the page takes no writes; where the page is not held, or takes none; and in any page.

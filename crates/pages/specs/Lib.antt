@@ -1,3 +1,4 @@
 pub mod Held
 pub mod Loads
 pub mod Entries
+pub mod Looks

@@ -2,3 +2,4 @@
 pub mod entries;
 pub mod clearing;
 pub mod loading;
+pub mod looking;

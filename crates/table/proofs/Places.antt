@@ -48,7 +48,7 @@ module _ (t : List ℕ) (apart : Apart t) where
       })
 
 -- A sector that may be written is among those that may write its page.
-named : (t : List ℕ) (n i : ℕ) → i < n → accessIn (entryOf t i) ≡ true → writingIn (entryOf t i) ≡ true → writes t n (pageIn (entryOf t i)) ≡ true
+pub named : (t : List ℕ) (n i : ℕ) → i < n → accessIn (entryOf t i) ≡ true → writingIn (entryOf t i) ≡ true → writes t n (pageIn (entryOf t i)) ≡ true
 named t zero i h ha hw = absurd (not-suc-le-zero h)
 named t (suc n) i h ha hw =
     ⊎-elim (λ e. let m : n ≡ i = sym e in grind (arith, tells)) (λ d. let m = named t n i (omega (arith, d)) ha hw in grind (arith, tells)) (cases-eq i n)

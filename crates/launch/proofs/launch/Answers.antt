@@ -26,7 +26,7 @@ returns-in-Break-open g c =
     let w : World = worldOf (c .new-engine .result .jobs) m in
     let q = err-from-errBy (c .from-residual-in-Break-open .result) (c .from-residual-in-Break-open .ensures .1) in
     let opened = ap₂ (λ (t : List ℕ) (s : ℕ). does (opens 0 t s) w) (sym (c .table .ensures)) (sym (c .start .ensures)) ∙ c .in-Break-open .ensures tt in
-    let all = open-refused file m p w (c .in-Continue-image .ensures tt .answer) (c .new-engine .ensures m) _ (c .in-Break-open .field-0 .0) opened in
+    let all = open-refused file m p w (c .in-Continue-image .ensures tt .answer) (c .new-engine .ensures .world m) _ (c .in-Break-open .field-0 .0) opened in
     record {
       answer = q .1 ∙ ap (λ (e : Refusal). Err e) (q .2) ∙ sym (ap (λ (l : Launched). l .answer) all);
       after = sym (ap (λ (l : Launched). l .world .mem) all)
@@ -43,7 +43,7 @@ returns-in-Break-load-all g c =
     let q = err-from-errBy (c .from-residual-in-Break-load-all .result) (c .from-residual-in-Break-load-all .ensures .1) in
     let opened = ap₂ (λ (t : List ℕ) (s : ℕ). does (opens 0 t s) w) (sym (c .table .ensures)) (sym (c .start .ensures)) ∙ c .in-Continue-open .ensures tt in
     let all =
-      load-refused file m p w (c .in-Continue-image .ensures tt .answer) (c .new-engine .ensures m) v opened _ (c .in-Break-load-all .field-0 .0)
+      load-refused file m p w (c .in-Continue-image .ensures tt .answer) (c .new-engine .ensures .world m) v opened _ (c .in-Break-load-all .field-0 .0)
       (c .in-Break-load-all .ensures tt ∙ ap (λ (bs : List BlockOf). loadsAll bs v) (c .blocks-2 .ensures)) in
     record {
       answer = q .1 ∙ ap (λ (e : Refusal). Err e) (q .2) ∙ sym (ap (λ (l : Launched). l .answer) all);
@@ -62,7 +62,7 @@ returns-in-Break-run g c =
     let q = err-from-errBy (c .from-residual-in-Break-run .result) (c .from-residual-in-Break-run .ensures .1) in
     let opened = ap₂ (λ (t : List ℕ) (s : ℕ). does (opens 0 t s) w) (sym (c .table .ensures)) (sym (c .start .ensures)) ∙ c .in-Continue-open .ensures tt in
     let all =
-      run-refused file m p w (c .in-Continue-image .ensures tt .answer) (c .new-engine .ensures m) v opened u
+      run-refused file m p w (c .in-Continue-image .ensures tt .answer) (c .new-engine .ensures .world m) v opened u
       (c .in-Continue-load-all .ensures tt ∙ ap (λ (bs : List BlockOf). loadsAll bs v) (c .blocks-2 .ensures)) _ (c .in-Break-run .field-0 .0) (c .in-Break-run .ensures tt) in
     record {
       answer = q .1 ∙ ap (λ (e : Refusal). Err e) (q .2) ∙ sym (ap (λ (l : Launched). l .answer) all);
@@ -95,7 +95,7 @@ returns g c =
     let o = owedOf (c .in-Continue-run .field-0 .receipt) in
     let opened = ap₂ (λ (t : List ℕ) (s : ℕ). does (opens 0 t s) w) (sym (c .table .ensures)) (sym (c .start .ensures)) ∙ c .in-Continue-open .ensures tt in
     let all =
-      ran-out file m p w (c .in-Continue-image .ensures tt .answer) (c .new-engine .ensures m) v opened u
+      ran-out file m p w (c .in-Continue-image .ensures tt .answer) (c .new-engine .ensures .world m) v opened u
       (c .in-Continue-load-all .ensures tt ∙ ap (λ (bs : List BlockOf). loadsAll bs v) (c .blocks-2 .ensures)) t r o (c .in-Continue-run .ensures tt) in
     record {
       answer =

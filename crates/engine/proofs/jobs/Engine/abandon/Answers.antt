@@ -3,23 +3,16 @@ use Rattle.model.specs.declared.job.Job.{Job}
 use Rattle.model.specs.Jobs.{closedJob}
 use Rattle.model.specs.Calls.{abandons, done}
 use Rattle.model.specs.Acts.{judgeReceipt}
-use Rattle.model.specs.Worlds.{World, worldOf, jobsOf, upd}
-use Rattle.model.proofs.Seats.{closed-once, closed-timed, closed-called}
+use Rattle.model.specs.Worlds.{World, worldOf, jobsOf}
 use Rattle.model.proofs.Settling.{refuses, accepts, settles-record}
 use Rattle.engine.proofs.Judged.{given, withheld, seated}
 use Rattle.engine.proofs.jobs.Engine.abandon.Needs as need
 
-pub set-record-requires : need.set-record-requires
-set-record-requires c κs =
+pub vacate-requires : need.vacate-requires
+vacate-requires c κs =
     let j = c .args .receipt .job in
     let b = jobsOf (c .args .self .now .jobs) j in
-    let took = given (judgeReceipt j (c .args .receipt .number) b) b _ (c .in-Ok .ensures tt) in
-    record {
-      low = seated j _ (took .0);
-      once = closed-once (c .closed .result) (c .closed .ensures);
-      timed = closed-timed (c .closed .result) (c .closed .ensures);
-      called = closed-called (c .closed .result) (c .closed .ensures)
-    }
+    seated j _ (given (judgeReceipt j (c .args .receipt .number) b) b _ (c .in-Ok .ensures tt) .0)
 
 pub returns-in-Err : need.returns-in-Err
 returns-in-Err c =
@@ -39,6 +32,6 @@ returns-in-Ok c =
       world = λ m.
         let w : World = worldOf (c .args .self .now .jobs) m in
         accepts j (abandons (c .args .receipt .number)) w (took .0)
-        ∙ settles-record j w closedJob (jobsOf (c .set-record .last .self .jobs)) done (c .set-record .ensures ∙ ap (upd (w .jobs) j) (c .closed .ensures));
+        ∙ settles-record j w closedJob (jobsOf (c .vacate .last .self .jobs)) done (c .vacate .ensures);
       handed = tt
     }

@@ -5,10 +5,11 @@ use Prim.Native.Nat.{ℕ, _*_, _≤_}
 use Rattle.model.specs.declared.job.Job.{Job}
 use Rattle.model.specs.Worlds.{worldOf, jobsOf, twice}
 use Rattle.model.proofs.Seats.{new-once, new-timed, new-called}
+use Rattle.protection.proofs.Whole.{protected}
 use Rattle.engine.proofs.jobs.Engine.new.Needs as need
 
 pub returns : need.returns
-returns c = λ m. ap (λ (js : List Job). worldOf js m) (c .closed-jobs .ensures)
+returns c = record { world = λ m. ap (λ (js : List Job). worldOf js m) (c .closed-jobs .ensures); protected = protected }
 
 pub ghost-result : need.ghost-result
 ghost-result c =

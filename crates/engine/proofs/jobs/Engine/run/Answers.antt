@@ -1,4 +1,5 @@
 use mathlib.Core.Path.{_≡_, refl, sym, _∙_, ap, subst}
+use Prim.Native.Nat.{ℕ}
 use Rattle.std.proofs.shelf.Results.{err-from-errBy}
 use Rattle.std.specs.declared.result.Result.{Result}
 use Rattle.std.specs.declared.result.Result.the-variants.{Ok, Err}
@@ -11,7 +12,7 @@ use Rattle.model.specs.Jobs.{ranJob}
 use Rattle.model.specs.Calls.{runs}
 use Rattle.model.specs.Acts.{judgeRun, owedBy}
 use Rattle.model.specs.Worlds.{World, Done, worldOf, jobsOf, upd}
-use Rattle.model.proofs.Settling.{refuses, accepts}
+use Rattle.model.proofs.Settling.{upd-same, refuses, accepts}
 use Rattle.model.proofs.Landings.{run-settles, run-at, frame-at}
 use Rattle.engine.proofs.Judged.{given, withheld}
 use Rattle.engine.proofs.jobs.Engine.run.Needs as need
@@ -37,9 +38,11 @@ returns g c =
     let same : c .in-Continue-record .record ≡ b = took .1 in
     let table : c .table-of-table .result .entries ≡ b .table = c .table-of-table .ensures ∙ ap (λ (x : Job). x .table) same in
     let seat : c .count .last .seat ≡ ranJob b r cpu = c .count .ensures ∙ ap (λ (x : Job). ranJob x r cpu) same in
+    let put : jobsOf (c .set-record .last .self .jobs) ≡ upd (w .jobs) j (ranJob b r cpu) = c .set-record .ensures ∙ ap (upd (w .jobs) j) seat in
     accepts j (runs n) w (took .0)
     ∙ run-settles j n w cpu r (jobsOf (c .set-record .last .self .jobs)) m _
       (run-at (c .table-of-table .result .entries) (b .table) n r (c .in-Continue-record .record .processor) (b .processor) cpu m (w .mem) table (ap (λ (x : Job). x .processor) same) (c .run-job-run .ensures .all))
       (frame-at (c .table-of-table .result .entries) (b .table) m (w .mem) table (c .run-job-run .ensures .kept))
-      (c .set-record .ensures ∙ ap (upd (w .jobs) j) seat)
-      (c .receipt-for .ensures ∙ ap (λ (x : Job). owedBy (r .stop) j (x .calls)) seat)
+      put
+      (c .receipt-for .ensures ∙ ap (owedBy (r .stop) j) (c .latest-call-number .ensures)
+        ∙ ap (λ (f : ℕ → Job). owedBy (r .stop) j (f j .calls)) put ∙ ap (λ (x : Job). owedBy (r .stop) j (x .calls)) (upd-same (w .jobs) j (ranJob b r cpu)))
