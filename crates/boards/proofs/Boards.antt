@@ -12,7 +12,7 @@ use lib.Seq.{getD-set-same, getD-set-other}
 use Rattle.memory.specs.Memories.{Mem, put, stored, pageAt, inSet}
 use Rattle.boards.specs.Boards.{singleMem, singleSize}
 
-set-put : (buffer : List ℕ) (a v : ℕ) → a < length buffer → (λ k. getD (set buffer a v) k 0) ≡ put (λ k. getD buffer k 0) a v
+pub set-put : (buffer : List ℕ) (a v : ℕ) → a < length buffer → (λ k. getD (set buffer a v) k 0) ≡ put (λ k. getD buffer k 0) a v
 set-put buffer a v h = fun-ext (λ k. go k (eqb k a) refl)
   where
     go : (k : ℕ) (z : Bool) → eqb k a ≡ z → getD (set buffer a v) k 0 ≡ cond z v (getD buffer k 0)

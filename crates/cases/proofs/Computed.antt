@@ -22,7 +22,7 @@ worked =
       case8 = (refl, refl, refl);
       case9 = ((refl, refl, refl), (refl, refl, refl), refl, refl, refl, refl);
       case10 = ((refl, refl, refl), (refl, refl, refl), refl, refl, refl);
-      case11 = ((refl, refl, refl), (refl, refl, refl), refl, refl, refl)
+      case11 = ((refl, refl, refl), (refl, refl, refl), refl, refl, refl);
     }
 
 pub sample-halts : Halts sampleBytes

@@ -23,8 +23,8 @@ module _ (j a : ℕ) (bs : List ℕ) (w : World) (m : Mem) (r : Judgement) (fine
       ∙ alone (judgeLoad a bs (spaceAt w j))
 
   settled : (z : Judgement) → judgeLoad a bs (spaceAt w j) ≡ z
-    → m ≡ unlessRefused z (w .mem) (back (w .jobs j .table) (laid a bs (bytesOf (spaceAt w j))) (w .mem))
-    → does (asks j (loads a bs)) w ≡ record { world = record { jobs = w .jobs; mem = m }; answer = doneAnswer z }
+      → m ≡ unlessRefused z (w .mem) (back (w .jobs j .table) (laid a bs (bytesOf (spaceAt w j))) (w .mem))
+      → does (asks j (loads a bs)) w ≡ record { world = record { jobs = w .jobs; mem = m }; answer = doneAnswer z }
   settled (Ok u) e em =
       accepts j (loads a bs) w (judged ∙ e)
       ∙ settles j w (effectOf j (loads a bs) (w .jobs j) (spaceAt w j)) (w .jobs) m done (sym (upd-self (w .jobs) j)) em refl
@@ -33,9 +33,9 @@ module _ (j a : ℕ) (bs : List ℕ) (w : World) (m : Mem) (r : Judgement) (fine
       ∙ ap {B = Done} (λ (x : Mem). record { world = record { jobs = w .jobs; mem = x }; answer = refused d }) (sym em)
 
   pub load-settles : (t : Table) → t ≡ w .jobs j .table → r ≡ judgeLoad a bs (shown t (w .mem)) → m ≡ loadedMem t a bs (w .mem)
-    → does (asks j (loads a bs)) w ≡ record { world = record { jobs = w .jobs; mem = m }; answer = doneAnswer r }
+      → does (asks j (loads a bs)) w ≡ record { world = record { jobs = w .jobs; mem = m }; answer = doneAnswer r }
   load-settles t et er em =
       let here : r ≡ judgeLoad a bs (spaceAt w j) = er ∙ ap (λ (u : Table). judgeLoad a bs (shown u (w .mem))) et in
       settled r (sym here)
       (em ∙ ap (λ (u : Table). loadedMem u a bs (w .mem)) et
-        ∙ ap (λ (z : Judgement). unlessRefused z (w .mem) (back (w .jobs j .table) (laid a bs (bytesOf (spaceAt w j))) (w .mem))) (sym here))
+      ∙ ap (λ (z : Judgement). unlessRefused z (w .mem) (back (w .jobs j .table) (laid a bs (bytesOf (spaceAt w j))) (w .mem))) (sym here))

@@ -25,15 +25,15 @@ module _ (j a : ℕ) (w : World) (before after : List ℕ) (fine : judgeOpenJob 
       ∙ alone (judgeLook a (length before) (spaceAt w j))
 
   looked : (z : Judgement) → judgeLook a (length before) (spaceAt w j) ≡ z → after ≡ unlessRefused z before (seen (length before) a (spaceAt w j))
-    → does (asks j (looks a (length before))) w ≡ record { world = w; answer = lookAnswer z after }
+      → does (asks j (looks a (length before))) w ≡ record { world = w; answer = lookAnswer z after }
   looked (Ok u) e ea =
       accepts j (looks a (length before)) w (judged ∙ e) ∙ settles-answer j w (saw (seen (length before) a (spaceAt w j)))
       ∙ ap {B = Done} (λ (bs : List ℕ). record { world = w; answer = saw bs }) (sym ea)
   looked (Err d) e ea = refuses j (looks a (length before)) w d (judged ∙ e)
 
   pub look-settles : (t : Table) (r : Judgement) → t ≡ w .jobs j .table → r ≡ judgeLook a (length before) (shown t (w .mem))
-    → after ≡ unlessRefused r before (seen (length before) a (shown t (w .mem)))
-    → does (asks j (looks a (length before))) w ≡ record { world = w; answer = lookAnswer r after }
+      → after ≡ unlessRefused r before (seen (length before) a (shown t (w .mem)))
+      → does (asks j (looks a (length before))) w ≡ record { world = w; answer = lookAnswer r after }
   look-settles t r et er ea =
       looked r (sym (er ∙ ap (λ (u : Table). judgeLook a (length before) (shown u (w .mem))) et))
       (ea ∙ ap (λ (u : Table). unlessRefused r before (seen (length before) a (shown u (w .mem)))) et)

@@ -13,7 +13,10 @@ ghost use Rattle.model.specs.Acts.{owedBy};
 ghost use Rattle.model.specs.Worlds.{jobsOf, worldOf, newWorld, upd, twice, does};
 ghost use Rattle.engine.specs.Answers.{doneAnswer, owedOf, ranAnswer, returnedAnswer, lookAnswer, stateAnswer};
 ghost use Rattle.protection.specs.Protection.{Protected};
-
+use crate::jobs::Engine;
+use crate::receipt::Outcome;
+use crate::receipt::Receipt;
+use crate::receipt::Returned;
 use memory::Memory;
 use model::job::Job;
 use model::job::Registers;
@@ -29,10 +32,6 @@ use runs::Ran;
 use stop::Stop;
 use stop::Trap;
 use table::sectors::Table;
-use crate::jobs::Engine;
-use crate::receipt::Outcome;
-use crate::receipt::Receipt;
-use crate::receipt::Returned;
 
 // Adds a run to the record.
 fn count(seat: &mut Job, run: Ran)
@@ -88,7 +87,9 @@ impl Engine {
         ensures world { λ r. ⌜ ((m : Mem) → worldOf (r .jobs) m ≡ newWorld m) ⌝ }
         ensures protected { λ _. ⌜ Protected ⌝ }
     {
-        Engine { jobs: closed_jobs() }
+        Engine {
+            jobs: closed_jobs(),
+        }
     }
 
     // Puts another record in a job's place; the other seven stay.
@@ -128,7 +129,13 @@ impl Engine {
     }
 
     // Gives a job its table and starting address, and clears its pages: refused with 4, 5, 7, 8, 9 and 10.
-    pub fn open<M: Memory>(&mut self, memory: &mut M, job: u8, table: [u8; 15], start: u16) -> Result<(), Refusal>
+    pub fn open<M: Memory>(
+        &mut self,
+        memory: &mut M,
+        job: u8,
+        table: [u8; 15],
+        start: u16,
+    ) -> Result<(), Refusal>
         ensures { λ r. ⌜ does (opens job table start) (worldOf (now (self .entry) .jobs) (mem (now (memory .entry)))) ≡ record { world = worldOf (now (self .exit) .jobs) (mem (now (memory .exit))); answer = doneAnswer r } ⌝ }
     {
         self.judge_open(memory, job, &table)?;
@@ -138,7 +145,13 @@ impl Engine {
     }
 
     // Puts bytes from an address of the job on: refused with 4, 6, 15, 16 and 17.
-    pub fn load<M: Memory>(&self, memory: &mut M, job: u8, at: u16, bytes: &[u8]) -> Result<(), Refusal>
+    pub fn load<M: Memory>(
+        &self,
+        memory: &mut M,
+        job: u8,
+        at: u16,
+        bytes: &[u8],
+    ) -> Result<(), Refusal>
         ensures { λ r. ⌜ does (asks job (loads at (now (bytes .entry)))) (worldOf (now (self .entry) .jobs) (mem (now (memory .entry)))) ≡ record { world = worldOf (now (self .entry) .jobs) (mem (now (memory .exit))); answer = doneAnswer r } ⌝ }
     {
         let record = self.open_record(job)?;
@@ -146,7 +159,12 @@ impl Engine {
     }
 
     // Runs the job for at most `limit` steps: refused with 4, 6, 11, 12 and 13.
-    pub fn run<M: Memory>(&mut self, memory: &mut M, job: u8, limit: u16) -> Result<Outcome, Refusal>
+    pub fn run<M: Memory>(
+        &mut self,
+        memory: &mut M,
+        job: u8,
+        limit: u16,
+    ) -> Result<Outcome, Refusal>
         ensures { λ r. ⌜ does (asks job (asksRun limit)) (worldOf (now (self .entry) .jobs) (mem (now (memory .entry)))) ≡ record { world = worldOf (now (self .exit) .jobs) (mem (now (memory .exit))); answer = ranAnswer r } ⌝ }
     {
         let mut record = self.ready_record(job, limit)?;
@@ -155,7 +173,10 @@ impl Engine {
         count(&mut record, run);
         self.set_record(job, record);
         let number = self.latest_call(job);
-        Ok(Outcome { run, receipt: receipt_for(run.stop, job, number) })
+        Ok(Outcome {
+            run,
+            receipt: receipt_for(run.stop, job, number),
+        })
     }
 
     // Sets the eight registers of the bank in use of a job that waits for this receipt, and makes it ready:
@@ -200,7 +221,13 @@ impl Engine {
     }
 
     // Fills the whole buffer with the job's bytes from an address on: refused with 4, 6, 15 and 16, with the buffer as it was.
-    pub fn look<M: Memory>(&self, memory: &M, job: u8, at: u16, out: &mut [u8]) -> Result<(), Refusal>
+    pub fn look<M: Memory>(
+        &self,
+        memory: &M,
+        job: u8,
+        at: u16,
+        out: &mut [u8],
+    ) -> Result<(), Refusal>
         ensures world { λ r. ⌜ does (asks job (looks at (length (now (out .entry))))) (worldOf (now (self .entry) .jobs) (mem (now (memory .entry)))) ≡ record { world = worldOf (now (self .entry) .jobs) (mem (now (memory .entry))); answer = lookAnswer r (now (out .exit)) } ⌝ }
         ensures untouched { λ r. ⌜ Cases r (λ _. Unit {0}) (λ _. now (out .exit) ≡ now (out .entry)) ⌝ }
     {

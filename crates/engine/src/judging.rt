@@ -8,7 +8,8 @@ ghost use Prim.Native.Nat.{ℕ, _<_};
 ghost use Rattle.model.specs.Acts.{judgeOpenJob, judgeRun, judgeReceipt, judgeClose};
 ghost use Rattle.model.specs.Worlds.{jobsOf, worldOf, heldBy, heldAt, judgeOpen};
 ghost use Rattle.engine.specs.Judges.{recordOr};
-
+use crate::jobs::Engine;
+use crate::receipt::Receipt;
 use memory::Memory;
 use memory::page::Page;
 use model::job::Job;
@@ -24,8 +25,6 @@ use refusal::Refusal;
 use search::Test;
 use search::first_in;
 use table::entry::entry_of;
-use crate::jobs::Engine;
-use crate::receipt::Receipt;
 
 impl Engine {
     // The record of a job.
@@ -97,7 +96,12 @@ impl Engine {
     }
 
     // Whether the job may be opened with the table: refused with 4, 5, 7, 8, 9 and 10.
-    pub(crate) fn judge_open<'x, M: Memory>(&'x self, memory: &'x M, job: u8, table: &'x [u8; 15]) -> Result<(), Refusal>
+    pub(crate) fn judge_open<'x, M: Memory>(
+        &'x self,
+        memory: &'x M,
+        job: u8,
+        table: &'x [u8; 15],
+    ) -> Result<(), Refusal>
         ensures { λ r. ⌜ r ≡ judgeOpen job (now (table .entry)) (worldOf (now (self .entry) .jobs) (mem (now (memory .entry)))) ⌝ }
     {
         Ground::NoSuchJob.refuse_if(job > 7)?;
@@ -105,7 +109,16 @@ impl Engine {
         Ground::ReservedBits.refuse_at(first_in(&Reserved { table }, 0, 15))?;
         Ground::PageNamedTwice.refuse_at(first_in(&NamedTwice { table }, 0, 15))?;
         Ground::PageNotWritable.refuse_at(first_in(&NotWritable { table, memory }, 0, 15))?;
-        Ground::PageHeld.refuse_at(first_in(&HeldByOther { engine: self, memory, job, table }, 0, 15))
+        Ground::PageHeld.refuse_at(first_in(
+            &HeldByOther {
+                engine: self,
+                memory,
+                job,
+                table,
+            },
+            0,
+            15,
+        ))
     }
 }
 
@@ -123,6 +136,8 @@ impl<'a, M: Memory> Test for HeldByOther<'a, M> as HeldByOtherTest {
 
     fn test(&self, n: u32) -> bool {
         let entry = entry_of(self.table, n);
-        entry.access() && self.memory.takes_writes(entry.page()) && self.engine.held_by_other(self.job, entry.page())
+        entry.access()
+            && self.memory.takes_writes(entry.page())
+            && self.engine.held_by_other(self.job, entry.page())
     }
 }

@@ -1,5 +1,5 @@
 // The engine: eight jobs over a memory that is lent at each call.
-pub mod receipt;
+pub mod calls;
 pub mod jobs;
 pub mod judging;
-pub mod calls;
+pub mod receipt;

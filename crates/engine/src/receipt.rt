@@ -1,7 +1,6 @@
 // What a run answers, and the receipt for a system call.
 ghost use denote.Ref.{now};
 ghost use mathlib.Core.Path.{_≡_};
-
 use refusal::Refusal;
 use runs::Ran;
 

@@ -1,16 +1,17 @@
 -- What a run's answer says of the job: it is open, and what it owes can be abandoned.
 use mathlib.Core.Path.{_≡_, refl, sym, _∙_, ap, subst}
 use mathlib.Core.Bool.{Bool, true, false, not, _&&_}
-use Prim.Native.Nat.{ℕ}
+use Prim.Native.Nat.{ℕ, _<_, _≤_}
 use native.Mathlib.Omega.{arith}
 use lib.Dec.{eqb}
 use borrow.Author.Tests.{eq-eqb}
+use Rattle.std.proofs.shelf.Tests.{le-ltb}
 use Rattle.std.specs.declared.option.Option.{Option}
 use Rattle.std.specs.declared.option.Option.the-variants.{Some, None}
 use Rattle.std.specs.declared.result.Result.{Result}
 use Rattle.std.specs.declared.result.Result.the-variants.{Ok, Err}
 use Rattle.refusal.specs.declared.Refusal.{Refusal}
-use Rattle.refusal.specs.declared.Ground.the-variants.{NotOpen, NotOwed}
+use Rattle.refusal.specs.declared.Ground.the-variants.{NoSuchJob, NotOpen, NotOwed}
 use Rattle.refusal.specs.Judging.{Judgement, when, also}
 use Rattle.stop.specs.declared.Trap.{Trap}
 use Rattle.stop.specs.declared.Trap.the-variants.{Halt, SystemCall, Breakpoint}
@@ -25,9 +26,10 @@ use Rattle.model.specs.declared.job.Status.{Status}
 use Rattle.model.specs.declared.job.Status.the-variants.{Waiting}
 use Rattle.model.specs.Jobs.{closedJob, isOpen, isWaiting, statusAfter, ranJob, stateOf}
 use Rattle.model.specs.Calls.{asks, runs, states, abandons, Owed, Answer, refused, done, ran, saw, told}
-use Rattle.model.specs.Acts.{owedBy, ranLeft, judgeAsk, judgeOpenJob, judgeReceipt}
+use Rattle.model.specs.Acts.{noSuchJob, notOpen, notOwed, owedBy, ranLeft, judgeAsk, judgeOpenJob, judgeReceipt}
 use Rattle.model.specs.Worlds.{World, Done, spaceAt, upd, settle, does}
 use Rattle.model.proofs.Settling.{upd-same, refuses, accepts, settles-record, settles-answer}
+use Rattle.engine.proofs.Judged.{seated}
 use Rattle.launch.specs.Launches.{ranIn, owedIn, settledBy, Acceptable}
 
 -- Answers of different kinds differ.
@@ -52,6 +54,7 @@ refused-told e s p = let q : _≡_ {A = ℕ} 0 3 = ap kind p in absurd (omega ar
 
 -- The job after an accepted run.
 pub record RanSays (j : ℕ) (v : World) (r : Ran) (o : Option Owed) : Type 0 where
+  pub low : j < 8
   pub status : v .jobs j .status ≡ statusAfter (r .stop)
   pub owed : o ≡ owedBy (r .stop) j (v .jobs j .calls)
 
@@ -68,10 +71,11 @@ ran-says j n w v r o p = go (judgeAsk j (runs n) (w .jobs j) (spaceAt w j)) refl
         let run : y .answer ≡ r = ap (λ (d : Done). ranIn (d .answer)) same in
         let job : x ≡ v .jobs j = sym (upd-same (w .jobs) j x) ∙ ap (λ (d : Done). d .world .jobs j) same in
         record {
+          low = seated j _ q;
           status = sym (ap (λ (k : Job). k .status) job) ∙ ap (λ (k : Ran). statusAfter (k .stop)) run;
           owed =
-            sym (ap (λ (d : Done). owedIn (d .answer)) same)
-            ∙ ap (λ (k : Ran). owedBy (k .stop) j (x .calls)) run ∙ ap (λ (k : Job). owedBy (r .stop) j (k .calls)) job
+              sym (ap (λ (d : Done). owedIn (d .answer)) same)
+              ∙ ap (λ (k : Ran). owedBy (k .stop) j (x .calls)) run ∙ ap (λ (k : Job). owedBy (r .stop) j (k .calls)) job;
         }
 
 -- A run leaves its job open.
@@ -89,23 +93,27 @@ pub ran-open : (v : World) (r : Ran) (o : Option Owed) → RanSays 0 v r o → i
 ran-open v r o h = ap isOpen (h .status) ∙ after-stop (r .stop)
 
 -- What it owes can be abandoned.
-owing : (b : Job) → b .status ≡ Waiting → judgeReceipt 0 (b .calls) b ≡ Ok tt
-owing b e =
-    ap (λ (s : Status). also (when (not (isOpen s)) NotOpen) (also (when (not (isWaiting s && eqb (b .calls) (b .calls))) NotOwed) (Ok tt))) e
+owing : (j : ℕ) (b : Job) → j < 8 → b .status ≡ Waiting → judgeReceipt j (b .calls) b ≡ Ok tt
+owing j b low e =
+    ap (λ z. also (when z NoSuchJob) (also (notOpen b) (also (notOwed b (b .calls)) (Ok tt)))) (le-ltb 7 j (let h : j ≤ 7 = omega arith in h))
+    ∙ ap (λ (s : Status). also (when (not (isOpen s)) NotOpen) (also (when (not (isWaiting s && eqb (b .calls) (b .calls))) NotOwed) (Ok tt))) e
     ∙ ap (λ z. also (when (not z) NotOwed) (Ok tt)) (eq-eqb (b .calls) (b .calls) refl)
 
-by-trap : (jobs : ℕ → Job) (e : Trap) → jobs 0 .status ≡ statusAfter (Trapped e) → Acceptable (owedBy (Trapped e) 0 (jobs 0 .calls)) jobs
-by-trap jobs Halt h = tt
-by-trap jobs SystemCall h = owing (jobs 0) h
-by-trap jobs Breakpoint h = tt
+by-trap : (j : ℕ) (jobs : ℕ → Job) (e : Trap) → j < 8 → jobs j .status ≡ statusAfter (Trapped e) → Acceptable (owedBy (Trapped e) j (jobs j .calls)) jobs
+by-trap j jobs Halt low h = tt
+by-trap j jobs SystemCall low h = owing j (jobs j) low h
+by-trap j jobs Breakpoint low h = tt
 
-by-stop : (jobs : ℕ → Job) (e : Stop) → jobs 0 .status ≡ statusAfter e → Acceptable (owedBy e 0 (jobs 0 .calls)) jobs
-by-stop jobs Limit h = tt
-by-stop jobs (Trapped e) h = by-trap jobs e h
-by-stop jobs (Faulted e) h = tt
+by-stop : (j : ℕ) (jobs : ℕ → Job) (e : Stop) → j < 8 → jobs j .status ≡ statusAfter e → Acceptable (owedBy e j (jobs j .calls)) jobs
+by-stop j jobs Limit low h = tt
+by-stop j jobs (Trapped e) low h = by-trap j jobs e low h
+by-stop j jobs (Faulted e) low h = tt
+
+pub ran-acceptable-at : (j : ℕ) (v : World) (r : Ran) (o : Option Owed) → RanSays j v r o → Acceptable o (v .jobs)
+ran-acceptable-at j v r o h = subst (λ (x : Option Owed). Acceptable x (v .jobs)) (sym (h .owed)) (by-stop j (v .jobs) (r .stop) (h .low) (h .status))
 
 pub ran-acceptable : (v : World) (r : Ran) (o : Option Owed) → RanSays 0 v r o → Acceptable o (v .jobs)
-ran-acceptable v r o h = subst (λ (x : Option Owed). Acceptable x (v .jobs)) (sym (h .owed)) (by-stop (v .jobs) (r .stop) (h .status))
+ran-acceptable v r o h = ran-acceptable-at 0 v r o h
 
 -- An open job 0 tells its state.
 pub open-judged : (b : Job) → isOpen (b .status) ≡ true → judgeOpenJob 0 b ≡ Ok tt
@@ -130,7 +138,7 @@ pub state-is : (w v : World) (s : State) → isOpen (w .jobs 0 .status) ≡ true
 state-is w v s h p = let q : told s ≡ told (stateOf (w .jobs 0)) = ap (λ (d : Done). d .answer) (sym p ∙ state-told w h) in cc
 
 pub abandon-kept : {A : Type 0} (w v : World) (o : Owed) (e : Refusal) → Acceptable (Some o) (w .jobs)
-  → does (asks (o .job) (abandons (o .number))) w ≡ record { world = v; answer = refused e } → A
+    → does (asks (o .job) (abandons (o .number))) w ≡ record { world = v; answer = refused e } → A
 abandon-kept w v o e h p = refused-done e (ap (λ (d : Done). d .answer) (sym p) ∙ abandoned w o h)
 
 -- Abandoning leaves memory as it was.

@@ -17,12 +17,12 @@ use Rattle.launch.specs.Launches.{Loaded, loadedBy, afterLoad, loadsAll, Launc
 -- A block more, the block that is refused, and no block more.
 module _ (whole : List BlockOf) (w : World) where
   pub load-one : (b : BlockOf) (bs : List BlockOf) (v : World) → whole ≡ b ∷ bs → does (asks 0 (loads (b .address) (b .bytes))) w ≡ record { world = v; answer = done }
-    → loadsAll bs v ≡ loadsAll whole w
+      → loadsAll bs v ≡ loadsAll whole w
   unfolding loadsAll
   load-one b bs v e h = sym (ap (λ (l : List BlockOf). loadsAll l w) e ∙ ap (λ (d : Done). afterLoad d (loadsAll bs)) h)
 
   pub load-stop : (b : BlockOf) (bs : List BlockOf) (v : World) (r : Refusal) → whole ≡ b ∷ bs
-    → does (asks 0 (loads (b .address) (b .bytes))) w ≡ record { world = v; answer = refused r } → loadedBy (Err r) v ≡ loadsAll whole w
+      → does (asks 0 (loads (b .address) (b .bytes))) w ≡ record { world = v; answer = refused r } → loadedBy (Err r) v ≡ loadsAll whole w
   unfolding loadsAll
   load-stop b bs v r e h = sym (ap (λ (l : List BlockOf). loadsAll l w) e ∙ ap (λ (d : Done). afterLoad d (loadsAll bs)) h)
 
@@ -59,5 +59,5 @@ module _ (file : List ℕ) (m : Mem) (p : Parsed) (w : World) (read : Ok p ≡ i
       run-refused t e h = running ∙ ap afterRun h
 
       pub ran-out : (t : World) (r : Ran) (o : Option Owed) → does (asks 0 (runs 65535)) u ≡ record { world = t; answer = ran r o }
-        → launchOf file m ≡ launchedBy (Ok (figureOf r t)) (settledBy o t)
+          → launchOf file m ≡ launchedBy (Ok (figureOf r t)) (settledBy o t)
       ran-out t r o h = running ∙ ap afterRun h

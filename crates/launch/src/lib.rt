@@ -12,7 +12,6 @@ ghost use Rattle.engine.specs.Answers.{owedOf};
 ghost use Rattle.std.specs.declared.option.Option.the-variants.{Some};
 ghost use Rattle.launch.specs.Lines.{lineOf};
 ghost use Rattle.launch.specs.Launches.{loadedBy, loadsAll, settledBy, Acceptable, launchOf};
-
 use engine::jobs::Engine;
 use engine::receipt::Outcome;
 use engine::receipt::Receipt;
@@ -69,7 +68,11 @@ fn a_of(state: &State) -> u8
 fn figure_of(run: Ran, a: u8) -> Figure
     ensures { λ r. ⌜ r ≡ record { stop = run .stop; steps = run .steps; a = a } ⌝ }
 {
-    Figure { stop: run.stop, steps: run.steps, a }
+    Figure {
+        stop: run.stop,
+        steps: run.steps,
+        a,
+    }
 }
 
 // A of the bank in use of job 0, which is open.

@@ -1,4 +1,4 @@
--- A run of a job that is not there, or that waits, is refused.
+-- A run and a closing of a job that waits are refused, and the reply to it is not.
 use mathlib.Core.Path.{_≡_, refl, sym, _∙_, ap}
 use mathlib.Core.Bool.{Bool, true, false, not}
 use Prim.Native.Nat.{ℕ}
@@ -7,7 +7,7 @@ use Rattle.std.specs.declared.option.Option.{Option}
 use Rattle.std.specs.declared.option.Option.the-variants.{Some, None}
 use Rattle.std.specs.declared.result.Result.the-variants.{Ok, Err}
 use Rattle.refusal.specs.declared.Refusal.{Refusal}
-use Rattle.refusal.specs.declared.Ground.the-variants.{NoSuchJob, NotOpen, JobWaiting, JobEnded}
+use Rattle.refusal.specs.declared.Ground.the-variants.{NotOpen, JobWaiting, JobEnded}
 use Rattle.refusal.specs.Grounds.{refusalOf}
 use Rattle.refusal.specs.Judging.{Judgement, when, also}
 use Rattle.stop.specs.declared.Trap.{Trap}
@@ -19,24 +19,31 @@ use Rattle.model.specs.declared.job.Job.{Job}
 use Rattle.model.specs.declared.job.Status.{Status}
 use Rattle.model.specs.declared.job.Status.the-variants.{Waiting}
 use Rattle.model.specs.Jobs.{isOpen, isWaiting, isEnded, statusAfter}
-use Rattle.model.specs.Calls.{asks, runs, Owed, Answer, refused, ran}
-use Rattle.model.specs.Acts.{owedBy, tooMany, judgeRun}
-use Rattle.model.specs.Worlds.{World, Done, does}
-use Rattle.model.proofs.Settling.{refuses}
-use Rattle.launch.proofs.Ran.{RanSays, refused-ran}
+use Rattle.model.specs.Calls.{Ask, asks, replies, Owed, Answer, refused}
+use Rattle.model.specs.declared.job.Registers.{Registers}
+use Rattle.model.specs.Acts.{owedBy, tooMany, judgeRun, judgeClose, judgeAsk}
+use Rattle.model.specs.Worlds.{World, Done, spaceAt, does}
+use Rattle.model.proofs.Settling.{refuses, accepts}
+use Rattle.launch.specs.Launches.{Acceptable}
+use Rattle.launch.proofs.Ran.{RanSays, refused-done}
 
--- A refused run answers nothing else, and changes no job.
-pub not-ran : {A : Type 0} (j n : ℕ) (w v : World) (e : Refusal) (r : Ran) (o : Option Owed) → judgeRun j n (w .jobs j) ≡ Err e
-  → does (asks j (runs n)) w ≡ record { world = v; answer = ran r o } → A
-not-ran j n w v e r o q p = refused-ran e r o (ap (λ (d : Done). d .answer) (sym (refuses j (runs n) w e q) ∙ p))
-
-pub same-jobs : (j n : ℕ) (w v : World) (e : Refusal) (a : Answer) → judgeRun j n (w .jobs j) ≡ Err e → does (asks j (runs n)) w ≡ record { world = v; answer = a }
-  → v .jobs ≡ w .jobs
-same-jobs j n w v e a q p = ap (λ (d : Done). d .world .jobs) (sym p ∙ refuses j (runs n) w e q)
+-- A refused call changes no job.
+pub same-jobs : (x : Ask) (w v : World) (e : Refusal) (a : Answer) → judgeAsk 0 x (w .jobs 0) (spaceAt w 0) ≡ Err e
+    → does (asks 0 x) w ≡ record { world = v; answer = a } → v .jobs ≡ w .jobs
+same-jobs x w v e a q p = ap (λ (d : Done). d .world .jobs) (sym p ∙ refuses 0 x w e q)
 
 pub waiting-judged : (n : ℕ) (b : Job) → b .status ≡ Waiting → judgeRun 0 n b ≡ Err (refusalOf JobWaiting 0)
 waiting-judged n b e =
     ap (λ (s : Status). also (when (not (isOpen s)) NotOpen) (also (when (isWaiting s) JobWaiting) (also (when (isEnded s) JobEnded) (also (tooMany b n) (Ok tt))))) e
+
+pub closing-judged : (b : Job) → b .status ≡ Waiting → judgeClose 0 b ≡ Err (refusalOf JobWaiting 0)
+closing-judged b e = ap (λ (s : Status). also (when (not (isOpen s)) NotOpen) (also (when (isWaiting s) JobWaiting) (Ok tt))) e
+
+-- An acceptable reply is done.
+pub reply-kept : {A : Type 0} (w v : World) (o : Owed) (r : Registers) (e : Refusal) → Acceptable (Some o) (w .jobs)
+    → does (asks (o .job) (replies (o .number) r)) w ≡ record { world = v; answer = refused e } → A
+reply-kept w v o r e h p =
+    refused-done e (ap (λ (d : Done). d .answer) (sym p) ∙ ap (λ (d : Done). d .answer) (accepts (o .job) (replies (o .number) r) w h))
 
 -- A run that owes something leaves its job waiting.
 some : Option Owed → ℕ

@@ -6,7 +6,6 @@ ghost use Rattle.model.specs.Jobs.{isOpen};
 ghost use Rattle.model.specs.Worlds.{jobsOf};
 ghost use Rattle.engine.specs.Answers.{owedOf};
 ghost use Rattle.launch.specs.Launches.{Acceptable};
-
 use boards::single::Filling;
 use boards::single::SingleBoard;
 use engine::jobs::Engine;

@@ -1,4 +1,11 @@
 // Each refusal that can be reached, with its number and place, and what it leaves as it was. The ground 13 is left out: it takes more than four thousand million steps to meet.
+use super::bench::TABLE;
+use super::bench::plain;
+use super::bench::watch;
+use super::bench::zeros;
+use super::owing::run_and_reply;
+use super::owing::run_eighth;
+use super::owing::show_elsewhere;
 use boards::single::Filling;
 use boards::single::SingleBoard;
 use boards::single::SingleBoardMemory;
@@ -8,16 +15,11 @@ use memory::Memory;
 use memory::page::Page;
 use memory::page::Sector;
 use memory::sets::PageSet;
+use model::job::Registers;
 use model::job::State;
 use refusal::Refusal;
 use refusal::RefusalDebug;
 use std::test::*;
-use super::bench::TABLE;
-use super::bench::plain;
-use super::bench::watch;
-use super::bench::zeros;
-use super::owing::run_eighth;
-use super::owing::show_elsewhere;
 
 fn check_refusal(refusal: Refusal, number: u8, place: u32) -> Result<(), Fail> {
     check_eq((refusal.ground.number(), refusal.place), (number, place))
@@ -46,13 +48,55 @@ fn check_files(rows: &[File]) -> Result<(), Fail> {
 }
 
 // The sample image: a table, the start 0, and one block of five bytes.
-const SAMPLE: [u8; 31] = [68, 80, 74, 0, 1, 60, 84, 0, 0, 0, 0, 0, 0, 0, 0, 0, 0, 0, 0, 0, 0, 0, 0, 0, 0, 5, 6, 5, 4, 3, 0];
+const SAMPLE: [u8; 31] = [
+    68,
+    80,
+    74,
+    0,
+    1,
+    60,
+    84,
+    0,
+    0,
+    0,
+    0,
+    0,
+    0,
+    0,
+    0,
+    0,
+    0,
+    0,
+    0,
+    0,
+    0,
+    0,
+    0,
+    0,
+    0,
+    5,
+    6,
+    5,
+    4,
+    3,
+    0,
+];
 
 // A file that is cut off: 2 within the first five bytes, 3 at the first offset of what is incomplete.
 #[test]
 fn files_cut_off() -> Result<(), Fail> {
     let sample = SAMPLE;
-    for (length, number, place) in [(0usize, 2u8, 0u32), (4, 2, 0), (5, 3, 5), (19, 3, 5), (20, 3, 20), (21, 3, 20), (23, 3, 22), (26, 3, 22), (30, 3, 22)] {
+    for (length, number, place) in [
+        (0usize, 2u8, 0u32),
+        (4, 2, 0),
+        (5, 3, 5),
+        (19, 3, 5),
+        (20, 3, 20),
+        (21, 3, 20),
+        (23, 3, 22),
+        (26, 3, 22),
+        (30, 3, 22),
+    ] {
         check(length <= 31)?;
         check_refused(Image::read(&sample[0..length]), number, place)?;
     }
@@ -64,14 +108,40 @@ fn files_cut_off() -> Result<(), Fail> {
 // The first five bytes, each in turn.
 #[test]
 fn files_of_another_kind() -> Result<(), Fail> {
-    check_files(&[
-        File { bytes: b"EPJ\0\x01", number: 2, place: 0 },
-        File { bytes: b"DQJ\0\x01", number: 2, place: 0 },
-        File { bytes: b"DPK\0\x01", number: 2, place: 0 },
-        File { bytes: b"DPJ\x01\x01", number: 2, place: 0 },
-        File { bytes: b"DPJ\0\x02", number: 2, place: 0 },
-        File { bytes: b"DPJ\0\x01", number: 3, place: 5 },
-    ])
+    check_files(
+        &[
+            File {
+                bytes: b"EPJ\0\x01",
+                number: 2,
+                place: 0,
+            },
+            File {
+                bytes: b"DQJ\0\x01",
+                number: 2,
+                place: 0,
+            },
+            File {
+                bytes: b"DPK\0\x01",
+                number: 2,
+                place: 0,
+            },
+            File {
+                bytes: b"DPJ\x01\x01",
+                number: 2,
+                place: 0,
+            },
+            File {
+                bytes: b"DPJ\0\x02",
+                number: 2,
+                place: 0,
+            },
+            File {
+                bytes: b"DPJ\0\x01",
+                number: 3,
+                place: 5,
+            },
+        ],
+    )
 }
 
 // 16,384 bytes are not too many, and one more is refused before anything else.
@@ -92,7 +162,15 @@ fn blocks_of_a_file() -> Result<(), Fail> {
     let Some(block) = blocks.next() else {
         return Err(Fail::new("no block"));
     };
-    check_eq((image.start(), block.offset, block.address, block.bytes.len()), (0, 22, 0, 5))?;
+    check_eq(
+        (
+            image.start(),
+            block.offset,
+            block.address,
+            block.bytes.len(),
+        ),
+        (0, 22, 0, 5),
+    )?;
     check(blocks.next().is_none())
 }
 
@@ -129,18 +207,26 @@ fn fills(rt: LibcRuntime) -> Result<(), Fail> {
     filling.fill(&mut bytes, page, 4096, &[])?;
     filling.fill(&mut bytes, page, 4094, &[1, 2])?;
     let board = plain(&mut bytes);
-    check_eq([board.read(65533), board.read(65534), board.read(65535)], [7, 1, 2])
+    check_eq(
+        [board.read(65533), board.read(65534), board.read(65535)],
+        [7, 1, 2],
+    )
 }
 
 // A write into a sealed page is refused at its address.
 #[test]
 fn writes(rt: LibcRuntime) -> Result<(), Fail> {
     let mut bytes = vec![in rt.alloc(); 7u8; 65536]?;
-    let mut board = Filling::new().seal(PageSet::none().with(Page::new(6)?)).board(&mut bytes);
+    let mut board = Filling::new()
+        .seal(PageSet::none().with(Page::new(6)?))
+        .board(&mut bytes);
     check_refused(board.write(24576, 1), 17, 24576)?;
     check_refused(board.write(28671, 1), 17, 28671)?;
     board.write(28672, 1)?;
-    check_eq([board.read(24576), board.read(28671), board.read(28672)], [7, 7, 1])
+    check_eq(
+        [board.read(24576), board.read(28671), board.read(28672)],
+        [7, 7, 1],
+    )
 }
 
 // An opening of a job, and how it is refused.
@@ -155,20 +241,98 @@ struct Opening {
 
 // Each is tried while job 0 holds page 0 and page 6 is sealed.
 const OPENINGS: [Opening; 13] = [
-    Opening { name: "job 8", job: 8, table: [1, 0, 0, 0, 0, 0, 0, 0, 0, 0, 0, 0, 0, 0, 0], number: 4, place: 0 },
-    Opening { name: "job 255", job: 255, table: TABLE, number: 4, place: 0 },
-    Opening { name: "job 0 again", job: 0, table: [1, 0, 0, 0, 0, 0, 0, 0, 0, 0, 0, 0, 0, 0, 0], number: 5, place: 0 },
-    Opening { name: "bit 0", job: 1, table: [0, 0, 0, 1, 0, 0, 0, 0, 0, 0, 0, 0, 0, 0, 0], number: 7, place: 3 },
-    Opening { name: "bit 1, twice", job: 1, table: [0, 0, 0, 0, 0, 0, 0, 0, 0, 0, 0, 0, 0, 2, 3], number: 7, place: 13 },
+    Opening {
+        name: "job 8",
+        job: 8,
+        table: [1, 0, 0, 0, 0, 0, 0, 0, 0, 0, 0, 0, 0, 0, 0],
+        number: 4,
+        place: 0,
+    },
+    Opening {
+        name: "job 255",
+        job: 255,
+        table: TABLE,
+        number: 4,
+        place: 0,
+    },
+    Opening {
+        name: "job 0 again",
+        job: 0,
+        table: [1, 0, 0, 0, 0, 0, 0, 0, 0, 0, 0, 0, 0, 0, 0],
+        number: 5,
+        place: 0,
+    },
+    Opening {
+        name: "bit 0",
+        job: 1,
+        table: [0, 0, 0, 1, 0, 0, 0, 0, 0, 0, 0, 0, 0, 0, 0],
+        number: 7,
+        place: 3,
+    },
+    Opening {
+        name: "bit 1, twice",
+        job: 1,
+        table: [0, 0, 0, 0, 0, 0, 0, 0, 0, 0, 0, 0, 0, 2, 3],
+        number: 7,
+        place: 13,
+    },
     // an entry at the end comes before page 2 named twice at the start
-    Opening { name: "7 before 8", job: 1, table: [44, 36, 0, 0, 0, 0, 0, 0, 0, 0, 0, 0, 0, 0, 1], number: 7, place: 14 },
-    Opening { name: "page 2 twice", job: 1, table: [44, 0, 36, 0, 0, 0, 0, 0, 0, 0, 0, 0, 0, 0, 0], number: 8, place: 2 },
-    Opening { name: "a sealed page twice", job: 1, table: [100, 0, 0, 0, 0, 0, 0, 0, 0, 0, 0, 0, 0, 0, 100], number: 8, place: 14 },
-    Opening { name: "8 before 9", job: 1, table: [108, 36, 36, 0, 0, 0, 0, 0, 0, 0, 0, 0, 0, 0, 0], number: 8, place: 2 },
-    Opening { name: "writing to a sealed page", job: 1, table: [0, 108, 0, 0, 0, 0, 0, 0, 0, 0, 0, 0, 0, 0, 0], number: 9, place: 1 },
-    Opening { name: "9 before 10", job: 1, table: [12, 108, 0, 0, 0, 0, 0, 0, 0, 0, 0, 0, 0, 0, 0], number: 9, place: 1 },
-    Opening { name: "page 0 is held", job: 1, table: [76, 12, 0, 0, 0, 0, 0, 0, 0, 0, 0, 0, 0, 0, 0], number: 10, place: 1 },
-    Opening { name: "page 0 is held, for reading", job: 1, table: [76, 0, 4, 0, 0, 0, 0, 0, 0, 0, 0, 0, 0, 0, 0], number: 10, place: 2 },
+    Opening {
+        name: "7 before 8",
+        job: 1,
+        table: [44, 36, 0, 0, 0, 0, 0, 0, 0, 0, 0, 0, 0, 0, 1],
+        number: 7,
+        place: 14,
+    },
+    Opening {
+        name: "page 2 twice",
+        job: 1,
+        table: [44, 0, 36, 0, 0, 0, 0, 0, 0, 0, 0, 0, 0, 0, 0],
+        number: 8,
+        place: 2,
+    },
+    Opening {
+        name: "a sealed page twice",
+        job: 1,
+        table: [100, 0, 0, 0, 0, 0, 0, 0, 0, 0, 0, 0, 0, 0, 100],
+        number: 8,
+        place: 14,
+    },
+    Opening {
+        name: "8 before 9",
+        job: 1,
+        table: [108, 36, 36, 0, 0, 0, 0, 0, 0, 0, 0, 0, 0, 0, 0],
+        number: 8,
+        place: 2,
+    },
+    Opening {
+        name: "writing to a sealed page",
+        job: 1,
+        table: [0, 108, 0, 0, 0, 0, 0, 0, 0, 0, 0, 0, 0, 0, 0],
+        number: 9,
+        place: 1,
+    },
+    Opening {
+        name: "9 before 10",
+        job: 1,
+        table: [12, 108, 0, 0, 0, 0, 0, 0, 0, 0, 0, 0, 0, 0, 0],
+        number: 9,
+        place: 1,
+    },
+    Opening {
+        name: "page 0 is held",
+        job: 1,
+        table: [76, 12, 0, 0, 0, 0, 0, 0, 0, 0, 0, 0, 0, 0, 0],
+        number: 10,
+        place: 1,
+    },
+    Opening {
+        name: "page 0 is held, for reading",
+        job: 1,
+        table: [76, 0, 4, 0, 0, 0, 0, 0, 0, 0, 0, 0, 0, 0, 0],
+        number: 10,
+        place: 2,
+    },
 ];
 
 // A board with page 6 sealed, and a 9 at the start of pages 4 and 6.
@@ -186,10 +350,19 @@ fn openings_refused(rt: LibcRuntime) -> Result<(), Fail> {
     let mut bytes = zeros(&rt)?;
     let mut board = board_with_nines(&mut bytes)?;
     let mut engine = Engine::new();
-    engine.open(&mut board, 0, [12, 0, 0, 0, 0, 0, 0, 0, 0, 0, 0, 0, 0, 0, 0], 0)?;
+    engine.open(
+        &mut board,
+        0,
+        [12, 0, 0, 0, 0, 0, 0, 0, 0, 0, 0, 0, 0, 0, 0],
+        0,
+    )?;
     let mut state = State::blank();
     for row in &OPENINGS {
-        check_refused(engine.open(&mut board, row.job, row.table, 0), row.number, row.place).note(row.name)?;
+        check_refused(
+            engine.open(&mut board, row.job, row.table, 0),
+            row.number,
+            row.place,
+        ).note(row.name)?;
         check_eq(board.read(16384), 9).note(row.name)?;
         check_refused(engine.state(1, &mut state), 6, 0).note(row.name)?;
     }
@@ -202,12 +375,35 @@ fn openings_accepted(rt: LibcRuntime) -> Result<(), Fail> {
     let mut bytes = zeros(&rt)?;
     let mut board = board_with_nines(&mut bytes)?;
     let mut engine = Engine::new();
-    engine.open(&mut board, 0, [12, 0, 0, 0, 0, 0, 0, 0, 0, 0, 0, 0, 0, 0, 0], 0)?;
-    engine.open(&mut board, 1, [76, 8, 100, 0, 0, 0, 0, 0, 0, 0, 0, 0, 0, 0, 0], 300)?;
-    engine.open(&mut board, 2, [100, 0, 0, 0, 0, 0, 0, 0, 0, 0, 0, 0, 0, 0, 0], 0)?;
+    engine.open(
+        &mut board,
+        0,
+        [12, 0, 0, 0, 0, 0, 0, 0, 0, 0, 0, 0, 0, 0, 0],
+        0,
+    )?;
+    engine.open(
+        &mut board,
+        1,
+        [76, 8, 100, 0, 0, 0, 0, 0, 0, 0, 0, 0, 0, 0, 0],
+        300,
+    )?;
+    engine.open(
+        &mut board,
+        2,
+        [100, 0, 0, 0, 0, 0, 0, 0, 0, 0, 0, 0, 0, 0, 0],
+        0,
+    )?;
     let mut state = State::blank();
     engine.state(1, &mut state)?;
-    check_eq((board.read(16384), board.read(24576), state.processor.p, state.steps), (0, 9, 300, 0))
+    check_eq(
+        (
+            board.read(16384),
+            board.read(24576),
+            state.processor.p,
+            state.steps,
+        ),
+        (0, 9, 300, 0),
+    )
 }
 
 // A load, and how it is refused: number 0 where it is accepted.
@@ -224,9 +420,16 @@ struct Loading {
 // Job 0 has page 0 in sector 0, nothing in 1, the sealed page 6 in 2, page 7 without bit 3 in 3, the sealed page 9 in 4, and page 8 in 14.
 fn check_loads(rt: LibcRuntime, rows: &[Loading]) -> Result<(), Fail> {
     let mut bytes = vec![in rt.alloc(); 0u8; 65536]?;
-    let mut board = Filling::new().seal(PageSet::none().with(Page::new(6)?).with(Page::new(9)?)).board(&mut bytes);
+    let mut board = Filling::new()
+        .seal(PageSet::none().with(Page::new(6)?).with(Page::new(9)?))
+        .board(&mut bytes);
     let mut engine = Engine::new();
-    engine.open(&mut board, 0, [12, 0, 100, 116, 148, 0, 0, 0, 0, 0, 0, 0, 0, 0, 140], 0)?;
+    engine.open(
+        &mut board,
+        0,
+        [12, 0, 100, 116, 148, 0, 0, 0, 0, 0, 0, 0, 0, 0, 140],
+        0,
+    )?;
     for row in rows {
         let answer = engine.load(&mut board, row.job, row.at, row.bytes);
         if row.number == 0 {
@@ -236,30 +439,162 @@ fn check_loads(rt: LibcRuntime, rows: &[Loading]) -> Result<(), Fail> {
         }
     }
     // the bytes of the accepted ones are there, and none of the others
-    check_eq([board.read(4094), board.read(4095), board.read(4096), board.read(24576), board.read(28671)], [1, 2, 0, 0, 0])?;
-    check_eq([board.read(28672), board.read(32767), board.read(36863), board.read(36864)], [3, 0, 4, 0])
+    check_eq(
+        [
+            board.read(4094),
+            board.read(4095),
+            board.read(4096),
+            board.read(24576),
+            board.read(28671),
+        ],
+        [1, 2, 0, 0, 0],
+    )?;
+    check_eq(
+        [
+            board.read(28672),
+            board.read(32767),
+            board.read(36863),
+            board.read(36864),
+        ],
+        [3, 0, 4, 0],
+    )
 }
 
 #[test]
 fn loads(rt: LibcRuntime) -> Result<(), Fail> {
-    check_loads(rt, &[
-        Loading { name: "accepted", job: 0, at: 4094, bytes: &[1, 2], number: 0, place: 0 },
-        Loading { name: "accepted without bit 3", job: 0, at: 12288, bytes: &[3], number: 0, place: 0 },
-        Loading { name: "accepted in sector 14", job: 0, at: 61439, bytes: &[4], number: 0, place: 0 },
-        Loading { name: "no byte", job: 0, at: 65535, bytes: &[], number: 0, place: 0 },
-        Loading { name: "no byte in a sealed page", job: 0, at: 8192, bytes: &[], number: 0, place: 0 },
-        Loading { name: "job 8", job: 8, at: 65535, bytes: &[9, 9], number: 4, place: 0 },
-        Loading { name: "job 7 is not open", job: 7, at: 65535, bytes: &[9, 9], number: 6, place: 0 },
-        Loading { name: "past the end", job: 0, at: 65535, bytes: &[9, 9], number: 15, place: 65535 },
-        Loading { name: "up to the end", job: 0, at: 65535, bytes: &[9], number: 16, place: 65535 },
-        Loading { name: "the second byte", job: 0, at: 4095, bytes: &[9, 9], number: 16, place: 4096 },
-        Loading { name: "the first byte", job: 0, at: 8191, bytes: &[9, 9], number: 16, place: 8191 },
-        Loading { name: "behind an allowed one", job: 0, at: 61439, bytes: &[9, 9], number: 16, place: 61440 },
-        Loading { name: "a sealed page", job: 0, at: 8192, bytes: &[9, 9], number: 17, place: 8192 },
-        Loading { name: "a sealed page at the first byte", job: 0, at: 12287, bytes: &[9, 9], number: 17, place: 12287 },
-        Loading { name: "a sealed page at the second byte", job: 0, at: 16383, bytes: &[9, 9], number: 17, place: 16384 },
-        Loading { name: "16 at the last byte before 17 at the first", job: 0, at: 20479, bytes: &[9, 9], number: 16, place: 20480 },
-    ])
+    check_loads(
+        rt,
+        &[
+            Loading {
+                name: "accepted",
+                job: 0,
+                at: 4094,
+                bytes: &[1, 2],
+                number: 0,
+                place: 0,
+            },
+            Loading {
+                name: "accepted without bit 3",
+                job: 0,
+                at: 12288,
+                bytes: &[3],
+                number: 0,
+                place: 0,
+            },
+            Loading {
+                name: "accepted in sector 14",
+                job: 0,
+                at: 61439,
+                bytes: &[4],
+                number: 0,
+                place: 0,
+            },
+            Loading {
+                name: "no byte",
+                job: 0,
+                at: 65535,
+                bytes: &[],
+                number: 0,
+                place: 0,
+            },
+            Loading {
+                name: "no byte in a sealed page",
+                job: 0,
+                at: 8192,
+                bytes: &[],
+                number: 0,
+                place: 0,
+            },
+            Loading {
+                name: "job 8",
+                job: 8,
+                at: 65535,
+                bytes: &[9, 9],
+                number: 4,
+                place: 0,
+            },
+            Loading {
+                name: "job 7 is not open",
+                job: 7,
+                at: 65535,
+                bytes: &[9, 9],
+                number: 6,
+                place: 0,
+            },
+            Loading {
+                name: "past the end",
+                job: 0,
+                at: 65535,
+                bytes: &[9, 9],
+                number: 15,
+                place: 65535,
+            },
+            Loading {
+                name: "up to the end",
+                job: 0,
+                at: 65535,
+                bytes: &[9],
+                number: 16,
+                place: 65535,
+            },
+            Loading {
+                name: "the second byte",
+                job: 0,
+                at: 4095,
+                bytes: &[9, 9],
+                number: 16,
+                place: 4096,
+            },
+            Loading {
+                name: "the first byte",
+                job: 0,
+                at: 8191,
+                bytes: &[9, 9],
+                number: 16,
+                place: 8191,
+            },
+            Loading {
+                name: "behind an allowed one",
+                job: 0,
+                at: 61439,
+                bytes: &[9, 9],
+                number: 16,
+                place: 61440,
+            },
+            Loading {
+                name: "a sealed page",
+                job: 0,
+                at: 8192,
+                bytes: &[9, 9],
+                number: 17,
+                place: 8192,
+            },
+            Loading {
+                name: "a sealed page at the first byte",
+                job: 0,
+                at: 12287,
+                bytes: &[9, 9],
+                number: 17,
+                place: 12287,
+            },
+            Loading {
+                name: "a sealed page at the second byte",
+                job: 0,
+                at: 16383,
+                bytes: &[9, 9],
+                number: 17,
+                place: 16384,
+            },
+            Loading {
+                name: "16 at the last byte before 17 at the first",
+                job: 0,
+                at: 20479,
+                bytes: &[9, 9],
+                number: 16,
+                place: 20480,
+            },
+        ],
+    )
 }
 
 // A job that is not there or not open; a state that is refused leaves the buffer.
@@ -291,7 +626,15 @@ fn jobs_ended(rt: LibcRuntime) -> Result<(), Fail> {
     engine.load(&mut board, 0, 0, &[1])?;
     let mut state = State::blank();
     engine.state(0, &mut state)?;
-    check_eq((seen.run.stop.number(), state.steps, state.processor.p, board.read(0)), (2, 1, 45, 1))
+    check_eq(
+        (
+            seen.run.stop.number(),
+            state.steps,
+            state.processor.p,
+            board.read(0),
+        ),
+        (2, 1, 45, 1),
+    )
 }
 
 // A receipt: its job waits, another engine refuses it, with 6 where it has no such job open and with 14 where that does not wait, and its own engine takes it and closes the job.
@@ -309,7 +652,9 @@ fn receipts(rt: LibcRuntime) -> Result<(), Fail> {
             return Err(Fail::new("no receipt"));
         };
         // counted from 1 at each opening
-        check_eq((shown.number, shown.waiting.ground.number(), shown.waiting.place), (1, 11, 0))?;
+        check_eq(shown.number, 1)?;
+        check_refusal(shown.waiting, 11, 0)?;
+        check_refused(shown.closing, 11, 0)?;
         let Some(refusal) = shown.elsewhere else {
             return Err(Fail::new("another engine took the receipt"));
         };
@@ -324,6 +669,81 @@ fn receipts(rt: LibcRuntime) -> Result<(), Fail> {
     check_eq(state.steps, 0)
 }
 
+// A reply sets the registers and makes the job ready; its next system call has the next number.
+#[test]
+fn replies(rt: LibcRuntime) -> Result<(), Fail> {
+    let mut bytes = zeros(&rt)?;
+    let mut board = plain(&mut bytes);
+    let mut engine = Engine::new();
+    engine.open(&mut board, 0, TABLE, 0)?;
+    engine.load(&mut board, 0, 0, &[0o067, 0o067])?;
+    let registers = Registers {
+        a: 1,
+        b: 2,
+        c: 3,
+        d: 4,
+        e: 5,
+        h: 6,
+        l: 7,
+        x: 8,
+    };
+    let first = run_and_reply(&mut engine, &mut board, registers)?;
+    let seen = watch(&mut engine, &mut board, 9)?;
+    let bank = seen.state.processor.bank();
+    check_eq(
+        (first, seen.owed, seen.state.steps, seen.state.processor.p),
+        (Some(1), 2, 2, 2),
+    )?;
+    check_eq(
+        [
+            bank.a,
+            bank.b,
+            bank.c,
+            bank.d,
+            bank.e,
+            bank.h,
+            bank.l,
+            bank.x,
+        ],
+        [1, 2, 3, 4, 5, 6, 7, 8],
+    )
+}
+
+// A look fills the whole buffer, or leaves it as it was.
+#[test]
+fn looks(rt: LibcRuntime) -> Result<(), Fail> {
+    let mut bytes = zeros(&rt)?;
+    let mut board = plain(&mut bytes);
+    let mut engine = Engine::new();
+    engine.open(&mut board, 0, TABLE, 0)?;
+    engine.load(&mut board, 0, 4095, &[1, 2])?;
+    let mut out = [9u8; 2];
+    check_refused(engine.look(&board, 8, 65535, &mut out), 4, 0)?;
+    check_refused(engine.look(&board, 7, 65535, &mut out), 6, 0)?;
+    check_refused(engine.look(&board, 0, 65535, &mut out), 15, 65535)?;
+    check_refused(engine.look(&board, 0, 8191, &mut out), 16, 8192)?;
+    check_eq(out, [9, 9])?;
+    engine.look(&board, 0, 4095, &mut out)?;
+    check_eq(out, [1, 2])
+}
+
+// A closing frees the pages and leaves their bytes, which the next opening clears.
+#[test]
+fn closings(rt: LibcRuntime) -> Result<(), Fail> {
+    let mut bytes = zeros(&rt)?;
+    let mut board = plain(&mut bytes);
+    let mut engine = Engine::new();
+    engine.open(&mut board, 0, TABLE, 0)?;
+    engine.load(&mut board, 0, 0, &[5])?;
+    check_refused(engine.close(8), 4, 0)?;
+    check_refused(engine.close(1), 6, 0)?;
+    check_refused(engine.open(&mut board, 1, TABLE, 0), 10, 0)?;
+    engine.close(0)?;
+    check_eq(board.read(0), 5)?;
+    engine.open(&mut board, 1, TABLE, 0)?;
+    check_eq(board.read(0), 0)
+}
+
 // The memory is lent at each call. Over another one, whose page 0 is sealed, the job meets a page that takes no writes.
 #[test]
 fn another_memory(rt: LibcRuntime) -> Result<(), Fail> {
@@ -335,8 +755,18 @@ fn another_memory(rt: LibcRuntime) -> Result<(), Fail> {
     let filling = Filling::new();
     // LA 1, LMA
     filling.fill(&mut others, Page::new(0)?, 0, &[0o006, 1, 0o370])?;
-    let mut fixed = filling.seal(PageSet::none().with(Page::new(0)?)).board(&mut others);
+    let mut fixed = filling
+        .seal(PageSet::none().with(Page::new(0)?))
+        .board(&mut others);
     check_refused(engine.load(&mut fixed, 0, 5, &[1]), 17, 5)?;
     let seen = watch(&mut engine, &mut fixed, 9)?;
-    check_eq((seen.run.stop.number(), seen.run.steps, seen.state.processor.p, fixed.read(0)), (7, 1, 2, 0o006))
+    check_eq(
+        (
+            seen.run.stop.number(),
+            seen.run.steps,
+            seen.state.processor.p,
+            fixed.read(0),
+        ),
+        (7, 1, 2, 0o006),
+    )
 }

@@ -47,7 +47,7 @@ unfolding bit
 one-bit p q =
     ⊎-elim (λ e. ap (λ x. 2 ^ q / 2 ^ x % 2) e ∙ same q ∙ sym (ap (λ z. cond z 1 0) (eq-eqb p q e)))
     (⊎-elim (λ h. higher p q h ∙ sym (ap (λ z. cond z 1 0) (ne-eqb p q (λ e. omega arith))))
-      (λ h. lower p q h ∙ sym (ap (λ z. cond z 1 0) (ne-eqb p q (λ e. omega arith)))))
+    (λ h. lower p q h ∙ sym (ap (λ z. cond z 1 0) (ne-eqb p q (λ e. omega arith)))))
     (cases-order p q)
 
 bit-low : (mask page : ℕ) → bit mask page < 2

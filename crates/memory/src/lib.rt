@@ -4,11 +4,10 @@ ghost use mathlib.Core.Path.{_≡_};
 ghost use mathlib.Core.Bool.{Bool, true, false};
 ghost use Prim.Native.Nat.{ℕ, _+_, _*_, _/_, _<_, _≤_};
 ghost use Rattle.memory.specs.Memories.{Mem, writeAnswer, stored};
-
 use refusal::Refusal;
 
-pub mod page;
 pub mod numbers;
+pub mod page;
 pub mod sectors;
 pub mod sets;
 

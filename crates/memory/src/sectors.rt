@@ -12,14 +12,20 @@ impl Sector {
     pub fn new(number: u8) -> Result<Sector, Refusal>
         ensures { λ r. ⌜ sectorNumber r ≡ sixteenth number ⌝ }
     {
-        if number < 16 { Ok(Sector { number }) } else { Err(Ground::OutOfRange.at(0)) }
+        if number < 16 {
+            Ok(Sector { number })
+        } else {
+            Err(Ground::OutOfRange.at(0))
+        }
     }
 
     // The sector of a job's address.
     pub fn of(at: u16) -> Sector
         ensures { λ r. ⌜ r .number ≡ at / 4096 ⌝ }
     {
-        Sector { number: (at / 4096) as u8 }
+        Sector {
+            number: (at / 4096) as u8,
+        }
     }
 
     pub fn number(self) -> u8

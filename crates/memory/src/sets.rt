@@ -6,7 +6,6 @@ ghost use Prim.Native.Nat.{ℕ, _*_, _%_, _^_, _<_};
 ghost use lib.Bits.{bitOr};
 ghost use lib.Dec.{eqb};
 ghost use Rattle.memory.specs.Memories.{inSet};
-
 use super::page::Page;
 
 // A set of pages, a bit for each.
@@ -33,7 +32,9 @@ impl PageSet {
     pub fn with(self, page: Page) -> PageSet
         ensures { λ r. ⌜ ((p : ℕ) → p < 16 → inSet (r .mask) p ≡ (eqb p (page .number) || inSet (self .mask) p)) ⌝ }
     {
-        PageSet { mask: mask_with(self.mask, page) }
+        PageSet {
+            mask: mask_with(self.mask, page),
+        }
     }
 
     pub fn has(self, page: Page) -> bool

@@ -39,10 +39,14 @@ writes-some t (suc n) p e =
     let wr : Bool = writingIn (entryOf t n) in
     let eq : Bool = eqb (pageOf t n) p in
     or-true (acc && (wr && eq)) (writes t n p) e
-    (λ h. (n, record {
-      low = omega arith; access = and-left acc (wr && eq) h;
-      page = eqb-true (pageOf t n) p (and-right wr eq (and-right acc (wr && eq) h))
-    }))
+    (λ h. (
+      n,
+      record {
+        low = omega arith;
+        access = and-left acc (wr && eq) h;
+        page = eqb-true (pageOf t n) p (and-right wr eq (and-right acc (wr && eq) h));
+      },
+    ))
     (λ h. let f = writes-some t n p h in (f .0, record { low = (let l : f .0 < n = f .1 .low in omega arith); access = f .1 .access; page = f .1 .page }))
 
 cells-shown : (t : Table) (m : Mem) → shown t m ≡ cellsBy t m
@@ -63,10 +67,10 @@ module _ (t : Table) (m m′ : Mem) (s : Cells) (frame : frameBy 0 t m′ ≡ fr
   outside x h =
       let p : ℕ = x / 4096 in
       bytes-kept x (not-so (writes t 15 p && m .takes p) (λ e.
-        let f = writes-some t 15 p (and-left (writes t 15 p) (m .takes p) e) in
-        clash (holds t p && m .takes p)
-        (both (holds t p) (m .takes p) (named-at 15 t p (f .0) (record { low = f .1 .low; access = f .1 .access; page = f .1 .page })) (and-right (writes t 15 p) (m .takes p) e))
-        h))
+      let f = writes-some t 15 p (and-left (writes t 15 p) (m .takes p) e) in
+      clash (holds t p && m .takes p)
+      (both (holds t p) (m .takes p) (named-at 15 t p (f .0) (record { low = f .1 .low; access = f .1 .access; page = f .1 .page })) (and-right (writes t 15 p) (m .takes p) e))
+      h))
 
   inside : (x i : ℕ) → At t 15 (x / 4096) i → m .takes (x / 4096) ≡ true → m′ .byte x ≡ bytesOf s (i * 4096 + x % 4096)
   inside x i g q = sym (ap (λ (u : Cells). u (i * 4096 + x % 4096) .byte) (cells ∙ sym (cells-shown t m′)) ∙ shown-at t m′ 15 x i g)
@@ -77,10 +81,10 @@ module _ (t : Table) (m m′ : Mem) (s : Cells) (frame : frameBy 0 t m′ ≡ fr
 -- A run of the job, by what the code did: the record, the memory and what is owed.
 module _ (j n : ℕ) (w : World) (c : Processor) (r : Ran) (f : ℕ → Job) (m : Mem) (o : Option Owed) where
   pub run-settles :
-    over r c (cellsBy (w .jobs j .table) m) ≡ runOf n 0 0 (w .jobs j .processor) (cellsBy (w .jobs j .table) (w .mem))
-    → frameBy 0 (w .jobs j .table) m ≡ frameBy 0 (w .jobs j .table) (w .mem)
-    → f ≡ upd (w .jobs) j (ranJob (w .jobs j) r c) → o ≡ owedBy (r .stop) j (ranJob (w .jobs j) r c .calls)
-    → settle j w (ranLeft j (w .jobs j) (runOf n 0 0 (w .jobs j .processor) (spaceAt w j))) ≡ record { world = record { jobs = f; mem = m }; answer = ran r o }
+      over r c (cellsBy (w .jobs j .table) m) ≡ runOf n 0 0 (w .jobs j .processor) (cellsBy (w .jobs j .table) (w .mem))
+      → frameBy 0 (w .jobs j .table) m ≡ frameBy 0 (w .jobs j .table) (w .mem)
+      → f ≡ upd (w .jobs) j (ranJob (w .jobs j) r c) → o ≡ owedBy (r .stop) j (ranJob (w .jobs j) r c .calls)
+      → settle j w (ranLeft j (w .jobs j) (runOf n 0 0 (w .jobs j .processor) (spaceAt w j))) ≡ record { world = record { jobs = f; mem = m }; answer = ran r o }
   run-settles all frame ef eo =
       let b : Job = w .jobs j in
       let t : Table = b .table in
@@ -91,7 +95,7 @@ module _ (j n : ℕ) (w : World) (c : Processor) (r : Ran) (f : ℕ → Job) (m 
 
 -- The same at an equal table and processor.
 pub run-at : (t u : Table) (n : ℕ) (r : Ran) (c d e : Processor) (m m₀ : Mem) → t ≡ u → c ≡ d
-  → over r e (cellsBy t m) ≡ runOf n 0 0 c (cellsBy t m₀) → over r e (cellsBy u m) ≡ runOf n 0 0 d (cellsBy u m₀)
+    → over r e (cellsBy t m) ≡ runOf n 0 0 c (cellsBy t m₀) → over r e (cellsBy u m) ≡ runOf n 0 0 d (cellsBy u m₀)
 run-at t u n r c d e m m₀ et ec h =
     subst (λ (x : Table). over r e (cellsBy x m) ≡ runOf n 0 0 d (cellsBy x m₀)) et
     (subst (λ (x : Processor). over r e (cellsBy t m) ≡ runOf n 0 0 x (cellsBy t m₀)) ec h)

@@ -33,13 +33,13 @@ upd-other f j b k ne = ap (λ z. cond z b (f k)) (ne-eqb k j ne)
 
 -- The world that an act leaves, by its parts.
 pub settles : (j : ℕ) (w : World) (x : Left) (f : ℕ → Job) (m : Mem) (a : Answer)
-  → f ≡ upd (w .jobs) j (x .job) → m ≡ back (w .jobs j .table) (x .bytes) (w .mem) → a ≡ x .answer
-  → settle j w x ≡ record { world = record { jobs = f; mem = m }; answer = a }
+    → f ≡ upd (w .jobs) j (x .job) → m ≡ back (w .jobs j .table) (x .bytes) (w .mem) → a ≡ x .answer
+    → settle j w x ≡ record { world = record { jobs = f; mem = m }; answer = a }
 settles j w x f m a ef em ea = λ i. record { world = record { jobs = sym ef i; mem = sym em i }; answer = sym ea i }
 
 -- One that leaves the bytes.
 pub settles-record : (j : ℕ) (w : World) (b : Job) (f : ℕ → Job) (a : Answer) → f ≡ upd (w .jobs) j b
-  → settle j w (says a b (spaceAt w j)) ≡ record { world = record { jobs = f; mem = w .mem }; answer = a }
+    → settle j w (says a b (spaceAt w j)) ≡ record { world = record { jobs = f; mem = w .mem }; answer = a }
 settles-record j w b f a ef = settles j w (says a b (spaceAt w j)) f (w .mem) a ef (sym (back-same (w .jobs j .table) (w .mem))) refl
 
 -- One that only answers.

@@ -92,8 +92,9 @@ owedBy (Faulted e) j number = None
 abbrev pub ranLeft : ℕ → Job → Over → Left
 ranLeft j b o =
     record {
-      job = ranJob b (o .answer) (o .cpu); bytes = bytesOf (o .cells);
-      answer = ran (o .answer) (owedBy (o .answer .stop) j (ranJob b (o .answer) (o .cpu) .calls))
+      job = ranJob b (o .answer) (o .cpu);
+      bytes = bytesOf (o .cells);
+      answer = ran (o .answer) (owedBy (o .answer .stop) j (ranJob b (o .answer) (o .cpu) .calls));
     }
 
 -- What each call does once it is accepted.

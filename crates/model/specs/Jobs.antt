@@ -65,8 +65,12 @@ statusByNumber n = getD (Closed ∷ Ready ∷ Ended ∷ Waiting ∷ Ready ∷ En
 abbrev pub ranJob : Job → Ran → Processor → Job
 ranJob b r c =
     record {
-      processor = c; table = b .table; steps = b .steps + r .steps; time = b .time + r .time;
-      calls = b .calls + callsIn (r .stop); status = statusAfter (r .stop)
+      processor = c;
+      table = b .table;
+      steps = b .steps + r .steps;
+      time = b .time + r .time;
+      calls = b .calls + callsIn (r .stop);
+      status = statusAfter (r .stop);
     }
 
 abbrev pub stateOf : Job → State
@@ -79,6 +83,10 @@ withRegisters k r = record { a = r .a; b = r .b; c = r .c; d = r .d; e = r .e; h
 abbrev pub repliedJob : Job → Registers → Job
 repliedJob b r =
     record {
-      processor = withBank (b .processor) (withRegisters (bankOf (b .processor)) r); table = b .table;
-      steps = b .steps; time = b .time; calls = b .calls; status = Ready
+      processor = withBank (b .processor) (withRegisters (bankOf (b .processor)) r);
+      table = b .table;
+      steps = b .steps;
+      time = b .time;
+      calls = b .calls;
+      status = Ready;
     }

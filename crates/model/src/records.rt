@@ -4,15 +4,14 @@ ghost use mathlib.Core.Path.{_≡_};
 ghost use Rattle.stop.specs.Stops.{numberOf};
 ghost use Rattle.runs.specs.Runs.{callsIn};
 ghost use Rattle.model.specs.Jobs.{closedJob, openedJob, repliedJob, stateOf, statusAfter, statusByNumber, isOpen as openStatus, isWaiting as waitingStatus, isEnded as endedStatus};
-
-use registers::bank::Bank;
-use registers::processor::Processor;
-use stop::Stop;
-use stop::Trap;
 use super::job::Job;
 use super::job::Registers;
 use super::job::State;
 use super::job::Status;
+use registers::bank::Bank;
+use registers::processor::Processor;
+use stop::Stop;
+use stop::Trap;
 
 impl Status {
     pub fn is_open(self) -> bool
@@ -72,23 +71,56 @@ impl Job {
     pub fn closed() -> Job
         ensures { λ r. ⌜ r ≡ closedJob ⌝ }
     {
-        Job { processor: Processor::reset(0), table: [0; 15], steps: 0, time: 0, calls: 0, status: Status::Closed }
+        Job {
+            processor: Processor::reset(0),
+            table: [0; 15],
+            steps: 0,
+            time: 0,
+            calls: 0,
+            status: Status::Closed,
+        }
     }
 
     // A job as it is opened.
     pub fn opened(table: [u8; 15], start: u16) -> Job
         ensures { λ r. ⌜ r ≡ openedJob table start ⌝ }
     {
-        Job { processor: Processor::reset(start), table, steps: 0, time: 0, calls: 0, status: Status::Ready }
+        Job {
+            processor: Processor::reset(start),
+            table,
+            steps: 0,
+            time: 0,
+            calls: 0,
+            status: Status::Ready,
+        }
     }
 
     // The job with a reply in the bank in use, whose flags stay, ready to go on.
     pub fn replied(mut self, registers: Registers) -> Job
         ensures { λ r. ⌜ r ≡ repliedJob self registers ⌝ }
     {
-        let Registers { a, b, c, d, e, h, l, x } = registers;
+        let Registers {
+            a,
+            b,
+            c,
+            d,
+            e,
+            h,
+            l,
+            x,
+        } = registers;
         let flags = self.processor.bank().flags;
-        self.processor.set_bank(Bank { a, b, c, d, e, h, l, x, flags });
+        self.processor.set_bank(Bank {
+            a,
+            b,
+            c,
+            d,
+            e,
+            h,
+            l,
+            x,
+            flags,
+        });
         self.status = Status::Ready;
         self
     }
@@ -97,7 +129,13 @@ impl Job {
     pub fn state(&self) -> State
         ensures { λ r. ⌜ r ≡ stateOf (now (self .entry)) ⌝ }
     {
-        State { processor: self.processor, steps: self.steps, time: self.time, calls: self.calls, status: self.status }
+        State {
+            processor: self.processor,
+            steps: self.steps,
+            time: self.time,
+            calls: self.calls,
+            status: self.status,
+        }
     }
 }
 

@@ -39,7 +39,7 @@ zeroed-none t m = fun-ext (λ x. let e = named-none t (x / 4096) in grind arith)
 
 -- One sector more: its page is put to 0 if there is access and it takes writes, or stays.
 pub zeroed-more : (n : ℕ) (t : Table) (m : Mem) → accessIn (entryOf t n) ≡ true → m .takes (pageOf t n) ≡ true
-  → zeroedPage (pageOf t n) 4096 (zeroed n t m) ≡ zeroed (n + 1) t m
+    → zeroedPage (pageOf t n) 4096 (zeroed n t m) ≡ zeroed (n + 1) t m
 unfolding zeroed zeroedPage
 zeroed-more n t m a h = fun-ext (λ x. let e = named-more n t (x / 4096) in grind arith)
 
@@ -70,4 +70,4 @@ module _ (n e p : ℕ) (t : Table) (m m₁ : Mem) (is : e ≡ entryOf t n) (page
   turn-leaves stays =
       let same : p ≡ pageOf t n = page ∙ ap pageIn is in
       inv ∙ ap (withBytes m) (zeroed-same n t m
-        (ap₂ (λ a b. a && b) (ap accessIn (sym is)) (ap (m .takes) (sym same) ∙ sym (ap (λ (x : Mem). x .takes p) inv)) ∙ stays))
+      (ap₂ (λ a b. a && b) (ap accessIn (sym is)) (ap (m .takes) (sym same) ∙ sym (ap (λ (x : Mem). x .takes p) inv)) ∙ stays))

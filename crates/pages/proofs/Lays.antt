@@ -58,7 +58,7 @@ accepted a bs s e =
     record {
       within = ltb-false 65536 (a + length bs) (picked-none (ltb 65536 (a + length bs)) a (at-ok OutOfRange (past a (length bs)) (one .0)));
       access = λ i h. not-false (s (a + i) .access) (none-passes (shutAt s) (length bs) a (at-ok NoAccess _ (two .0)) (a + i) (omega arith) (omega arith));
-      takes = λ i h. not-false (s (a + i) .takes) (none-passes (refusesAt s) (length bs) a (at-ok NoWrites _ (three .0)) (a + i) (omega arith) (omega arith))
+      takes = λ i h. not-false (s (a + i) .takes) (none-passes (refusesAt s) (length bs) a (at-ok NoWrites _ (three .0)) (a + i) (omega arith) (omega arith));
     }
 
 -- A byte put at an address that the table reaches.
@@ -70,13 +70,13 @@ same-test : (a b c d : ℕ) → (a ≡ b → c ≡ d) → (c ≡ d → a ≡ b) 
 same-test a b c d f g = by-test (eqb c d) (λ e. eq-eqb a b (g (eqb-true c d e)) ∙ sym e) (λ e. ne-eqb a b (λ h. eqb-false c d e (f h)) ∙ sym e)
 
 put-shown : (t : Table) → Apart t → (m : Mem) (a b : ℕ) → accessIn (entryOf t (a / 4096)) ≡ true
-  → bytesOf (shown t (withBytes m (put (m .byte) (physical t a) b))) ≡ put (bytesOf (shown t m)) a b
+    → bytesOf (shown t (withBytes m (put (m .byte) (physical t a) b))) ≡ put (bytesOf (shown t m)) a b
 unfolding shown
 put-shown t once m a b acc =
     fun-ext
     (λ x. pick-one (accessIn (entryOf t (x / 4096))) (eqb x a) (eqb (physical t x) (physical t a)) b (m .byte (physical t x))
-      (λ h. same-test (physical t x) (physical t a) x a (one-place t once x a h acc) (ap (physical t)))
-      (λ h. ne-eqb x a (λ e. clash (accessIn (entryOf t (x / 4096))) (ap (λ y. accessIn (entryOf t (y / 4096))) e ∙ acc) h)))
+    (λ h. same-test (physical t x) (physical t a) x a (one-place t once x a h acc) (ap (physical t)))
+    (λ h. ne-eqb x a (λ e. clash (accessIn (entryOf t (x / 4096))) (ap (λ y. accessIn (entryOf t (y / 4096))) e ∙ acc) h)))
 
 laid-none : (a : ℕ) (bs : List ℕ) (m : ℕ → ℕ) → laidTo 0 a bs m ≡ m
 unfolding laidTo
@@ -87,8 +87,8 @@ unfolding laidTo
 laid-more n a bs m =
     fun-ext
     (λ x. by-test (eqb x (a + n))
-      (λ e. let q : x ≡ a + n = eqb-true x (a + n) e in let i : x - a ≡ n = omega arith in ap (λ z. cond z (getD bs n 0) (laidTo n a bs m x)) e ∙ here x q i)
-      (λ e. let d = eqb-false x (a + n) e in grind (arith, tells, d)))
+    (λ e. let q : x ≡ a + n = eqb-true x (a + n) e in let i : x - a ≡ n = omega arith in ap (λ z. cond z (getD bs n 0) (laidTo n a bs m x)) e ∙ here x q i)
+    (λ e. let d = eqb-false x (a + n) e in grind (arith, tells, d)))
   where
     here : (x : ℕ) → x ≡ a + n → x - a ≡ n → getD bs n 0 ≡ cond (leb a x && ltb x (a + (n + 1))) (getD bs (x - a) 0) (m x)
     here x q i = let r : getD bs (x - a) 0 ≡ getD bs n 0 = ap (λ y. getD bs y 0) i in grind (arith, tells)
@@ -121,20 +121,20 @@ module _ (t : Table) (once : Apart t) (a : ℕ) (bs : List ℕ) (m₀ : Mem) (fi
       record {
         fixed = ap (λ (n : Mem). n .takes) e ∙ L .fixed;
         same =
-          ap (λ (n : Mem). bytesOf (shown t n)) e ∙ put-shown t once m (a + i) (getD bs i 0) (access-here h)
-          ∙ ap (λ (f : ℕ → ℕ). put f (a + i) (getD bs i 0)) (L .same) ∙ laid-more i a bs (bytesOf (shown t m₀));
+            ap (λ (n : Mem). bytesOf (shown t n)) e ∙ put-shown t once m (a + i) (getD bs i 0) (access-here h)
+            ∙ ap (λ (f : ℕ → ℕ). put f (a + i) (getD bs i 0)) (L .same) ∙ laid-more i a bs (bytesOf (shown t m₀));
         rest = λ x q.
-          ap (λ (n : Mem). n .byte x) e
-          ∙ ap (λ z. cond z (getD bs i 0) (m .byte x)) (ne-eqb x (physical t (a + i)) (λ r.
-              let page : x / 4096 ≡ pageOf t ((a + i) / 4096) = ap (λ y. y / 4096) r ∙ place-page t (a + i) in
-              clash (holds t (x / 4096) && m₀ .takes (x / 4096))
-              (both (holds t (x / 4096)) (m₀ .takes (x / 4096)) (ap (holds t) page ∙ holds-at t ((a + i) / 4096) (access-here h)) (ap (m₀ .takes) page ∙ takes-here h)) q))
-          ∙ L .rest x q
+            ap (λ (n : Mem). n .byte x) e
+            ∙ ap (λ z. cond z (getD bs i 0) (m .byte x)) (ne-eqb x (physical t (a + i)) (λ r.
+            let page : x / 4096 ≡ pageOf t ((a + i) / 4096) = ap (λ y. y / 4096) r ∙ place-page t (a + i) in
+            clash (holds t (x / 4096) && m₀ .takes (x / 4096))
+            (both (holds t (x / 4096)) (m₀ .takes (x / 4096)) (ap (holds t) page ∙ holds-at t ((a + i) / 4096) (access-here h)) (ap (m₀ .takes) page ∙ takes-here h)) q))
+            ∙ L .rest x q;
       }
 
   pub lay-over : i ≡ length bs → m ≡ back t (laid a bs (bytesOf (shown t m₀))) m₀
   lay-over h =
       let bytes : m .byte ≡ backByte t (laid a bs (bytesOf (shown t m₀))) m₀ =
-            lands t (laid a bs (bytesOf (shown t m₀))) m₀ (m .byte) (L .rest)
-            (λ x l g q. sym (ap (λ (f : ℕ → ℕ). f (l * 4096 + x % 4096)) (sym (L .same ∙ ap (λ n. laidTo n a bs (bytesOf (shown t m₀))) h)) ∙ shown-at t m 15 x l g)) in
+      lands t (laid a bs (bytesOf (shown t m₀))) m₀ (m .byte) (L .rest)
+      (λ x l g q. sym (ap (λ (f : ℕ → ℕ). f (l * 4096 + x % 4096)) (sym (L .same ∙ ap (λ n. laidTo n a bs (bytesOf (shown t m₀))) h)) ∙ shown-at t m 15 x l g)) in
       λ j. record { byte = bytes j; takes = L .fixed j }

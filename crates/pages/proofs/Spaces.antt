@@ -29,8 +29,8 @@ wider : (t : Table) (n p : ℕ) (f : Where) → (accessIn (entryOf t n) && eqb (
 wider t n p nowhere e g = λ i a.
     by-test (eqb i n)
     (λ q. clash (accessIn (entryOf t n) && eqb (pageOf t n) p)
-      (both (accessIn (entryOf t n)) (eqb (pageOf t n) p) (ap (λ x. accessIn (entryOf t x)) (sym (eqb-true i n q)) ∙ a .access) (eq-eqb (pageOf t n) p (ap (pageOf t) (sym (eqb-true i n q)) ∙ a .page)))
-      e)
+    (both (accessIn (entryOf t n)) (eqb (pageOf t n) p) (ap (λ x. accessIn (entryOf t x)) (sym (eqb-true i n q)) ∙ a .access) (eq-eqb (pageOf t n) p (ap (pageOf t) (sym (eqb-true i n q)) ∙ a .page)))
+    e)
     (λ q. g i (record { low = (let ne : i ≢ n = eqb-false i n q in let h : i < suc n = a .low in omega arith); access = a .access; page = a .page }))
 wider t n p (sector i) e g = lower t n p i g
 
@@ -42,8 +42,9 @@ found t (suc n) p = go (accessIn (entryOf t n) && eqb (pageOf t n) p) refl (foun
     go : (z : Bool) → (accessIn (entryOf t n) && eqb (pageOf t n) p) ≡ z → Good t n p (finds t n p) → Good t (suc n) p (cond z (sector n) (finds t n p))
     go true e g =
         record {
-          low = omega arith; access = and-left (accessIn (entryOf t n)) (eqb (pageOf t n) p) e;
-          page = eqb-true (pageOf t n) p (and-right (accessIn (entryOf t n)) (eqb (pageOf t n) p) e)
+          low = omega arith;
+          access = and-left (accessIn (entryOf t n)) (eqb (pageOf t n) p) e;
+          page = eqb-true (pageOf t n) p (and-right (accessIn (entryOf t n)) (eqb (pageOf t n) p) e);
         }
     go false e g = wider t n p (finds t n p) e g
 
@@ -103,28 +104,28 @@ back-else t bs m x e = go (m .takes (x / 4096)) (finds t 15 (x / 4096)) e
     go true (sector i) q = clash true refl q
 
 pub back-all : (P : ℕ → Type 0) (t : Table) (bs : ℕ → ℕ) (m : Mem) (x : ℕ)
-  → ((holds t (x / 4096) && m .takes (x / 4096)) ≡ false → P (m .byte x))
-  → ((i : ℕ) → At t 15 (x / 4096) i → m .takes (x / 4096) ≡ true → P (bs (i * 4096 + x % 4096)))
-  → P (backByte t bs m x)
+    → ((holds t (x / 4096) && m .takes (x / 4096)) ≡ false → P (m .byte x))
+    → ((i : ℕ) → At t 15 (x / 4096) i → m .takes (x / 4096) ≡ true → P (bs (i * 4096 + x % 4096)))
+    → P (backByte t bs m x)
 unfolding backByte named
 back-all P t bs m x old new = go (m .takes (x / 4096)) refl (finds t 15 (x / 4096)) refl (found t 15 (x / 4096))
   where
     go : (z : Bool) → m .takes (x / 4096) ≡ z → (f : Where) → finds t 15 (x / 4096) ≡ f → Good t 15 (x / 4096) f
-      → P (cond z (pick f bs (x % 4096) (m .byte x)) (m .byte x))
+        → P (cond z (pick f bs (x % 4096) (m .byte x)) (m .byte x))
     go false e f q g = old (ap (λ y. isThere (finds t 15 (x / 4096)) && y) e ∙ grind arith)
     go true e nowhere q g = old (ap (λ y. isThere y && m .takes (x / 4096)) q)
     go true e (sector i) q g = new i g e
 
 -- A held page that takes writes holds what the space says at its sector, where the table names no page twice.
 pub back-at : (t : Table) (bs : ℕ → ℕ) (m : Mem) (a : ℕ) → Apart t → accessIn (entryOf t (a / 4096)) ≡ true → m .takes (pageOf t (a / 4096)) ≡ true
-  → backByte t bs m (physical t a) ≡ bs a
+    → backByte t bs m (physical t a) ≡ bs a
 back-at t bs m a once acc tk =
     back-all (λ v. v ≡ bs a) t bs m (physical t a)
     (λ e. clash (holds t (physical t a / 4096) && m .takes (physical t a / 4096))
-      (both (holds t (physical t a / 4096)) (m .takes (physical t a / 4096)) (ap (holds t) (place-page t a) ∙ holds-at t (a / 4096) acc) (ap (m .takes) (place-page t a) ∙ tk))
-      e)
+    (both (holds t (physical t a / 4096)) (m .takes (physical t a / 4096)) (ap (holds t) (place-page t a) ∙ holds-at t (a / 4096) acc) (ap (m .takes) (place-page t a) ∙ tk))
+    e)
     (λ i g e. let same : i ≡ a / 4096 = once i (a / 4096) (g .access, acc, g .page ∙ place-page t a) in
-      ap bs (ap (λ y. y * 4096 + physical t a % 4096) same ∙ ap (λ y. a / 4096 * 4096 + y) (place-off t a) ∙ split a))
+    ap bs (ap (λ y. y * 4096 + physical t a % 4096) same ∙ ap (λ y. a / 4096 * 4096 + y) (place-off t a) ∙ split a))
 
 -- A space tells no more than the bytes of the pages that the table names.
 abbrev cell : Cell → ℕ → Cell
@@ -135,7 +136,7 @@ only true u v h = h refl
 only false u v h = refl
 
 pub shown-same : (t : Table) (k : ℕ → Bool) (m n : ℕ → ℕ) → ((a : ℕ) → accessIn (entryOf t (a / 4096)) ≡ true → m (physical t a) ≡ n (physical t a))
-  → shown t (record { byte = m; takes = k }) ≡ shown t (record { byte = n; takes = k })
+    → shown t (record { byte = m; takes = k }) ≡ shown t (record { byte = n; takes = k })
 unfolding shown
 shown-same t k m n h =
     fun-ext (λ a. ap (cell (shown t (record { byte = m; takes = k }) a)) (only (accessIn (entryOf t (a / 4096))) (m (physical t a)) (n (physical t a)) (h a)))
@@ -151,9 +152,9 @@ unfolding shown
 local t bs m once =
     fun-ext
     (λ a. ap (cell (shown t m a))
-      (local-byte (accessIn (entryOf t (a / 4096))) (m .takes (pageOf t (a / 4096))) (backByte t bs m (physical t a)) (m .byte (physical t a)) (bs a)
-        (back-at t bs m a once)
-        (λ acc e. back-fixed t bs m (physical t a) (ap (m .takes) (place-page t a) ∙ e))))
+    (local-byte (accessIn (entryOf t (a / 4096))) (m .takes (pageOf t (a / 4096))) (backByte t bs m (physical t a)) (m .byte (physical t a)) (bs a)
+    (back-at t bs m a once)
+    (λ acc e. back-fixed t bs m (physical t a) (ap (m .takes) (place-page t a) ∙ e))))
 
 -- What a space says of a byte in memory.
 pub shown-at : (t : Table) (m : Mem) (n x i : ℕ) → At t n (x / 4096) i → bytesOf (shown t m) (i * 4096 + x % 4096) ≡ m .byte x
@@ -164,9 +165,9 @@ shown-at t m n x i g =
 
 -- A memory that differs from another in held pages that take writes alone is the other with a space written back.
 pub lands : (t : Table) (bs : ℕ → ℕ) (m : Mem) (n : ℕ → ℕ)
-  → ((x : ℕ) → (holds t (x / 4096) && m .takes (x / 4096)) ≡ false → n x ≡ m .byte x)
-  → ((x i : ℕ) → At t 15 (x / 4096) i → m .takes (x / 4096) ≡ true → n x ≡ bs (i * 4096 + x % 4096))
-  → n ≡ backByte t bs m
+    → ((x : ℕ) → (holds t (x / 4096) && m .takes (x / 4096)) ≡ false → n x ≡ m .byte x)
+    → ((x i : ℕ) → At t 15 (x / 4096) i → m .takes (x / 4096) ≡ true → n x ≡ bs (i * 4096 + x % 4096))
+    → n ≡ backByte t bs m
 lands t bs m n h g = fun-ext (λ x. back-all (λ v. n x ≡ v) t bs m x (h x) (g x))
 
 -- A space that is as it was leaves memory as it was.

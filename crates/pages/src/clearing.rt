@@ -5,7 +5,6 @@ ghost use mathlib.Core.Bool.{Bool, true};
 ghost use Prim.Native.Nat.{ℕ, _/_};
 ghost use Rattle.memory.specs.Memories.{put};
 ghost use Rattle.pages.specs.Held.{back, zeroed, zeroedPage};
-
 use memory::Memory;
 use memory::page::Page;
 use table::entry::entry_of;

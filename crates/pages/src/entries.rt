@@ -5,7 +5,6 @@ ghost use mathlib.Core.Bool.{Bool, not};
 ghost use Prim.Native.Nat.{ℕ};
 ghost use Rattle.pages.specs.Held.{named};
 ghost use Rattle.pages.specs.Entries.{reservedAt, againAt, fixedAt};
-
 use memory::Memory;
 use memory::page::Page;
 use search::Test;

@@ -1,5 +1,5 @@
 // The pages that a job holds: what an opening tests and clears, and where a load puts its bytes.
-pub mod entries;
 pub mod clearing;
+pub mod entries;
 pub mod loading;
 pub mod looking;

@@ -7,7 +7,7 @@ ghost use Rattle.std.specs.declared.result.Result.the-variants.{Ok as IsOk};
 ghost use Rattle.pages.specs.Held.{shown, bytesOf, back};
 ghost use Rattle.pages.specs.Entries.{shutAt, refusesAt};
 ghost use Rattle.pages.specs.Loads.{judgeLoad, laid, loadedMem};
-
+use super::clearing::set_byte;
 use memory::Memory;
 use refusal::Ground;
 use refusal::Refusal;
@@ -15,7 +15,6 @@ use search::Test;
 use search::first_in;
 use table::entry::entry_of;
 use table::sectors::Table;
-use super::clearing::set_byte;
 
 // Addresses without access.
 #[derive(Drop)]
@@ -49,7 +48,12 @@ pub impl<'a, M: Memory> Test for Unwritable<'a, M> as UnwritableTest {
 }
 
 // The grounds of a load, in their order.
-fn judge<'x, M: Memory>(table: &'x [u8; 15], memory: &'x M, at: u16, bytes: &[u8]) -> Result<(), Refusal>
+fn judge<'x, M: Memory>(
+    table: &'x [u8; 15],
+    memory: &'x M,
+    at: u16,
+    bytes: &[u8],
+) -> Result<(), Refusal>
     ensures { λ r. ⌜ r ≡ judgeLoad at (now (bytes .entry)) (shown (now (table .entry)) (mem (now (memory .entry)))) ⌝ }
 {
     let from = at as u32;

@@ -15,7 +15,12 @@ use search::first_in;
 use table::entry::entry_of;
 
 // The grounds of a look, in their order.
-fn judge<'x, M: Memory>(table: &'x [u8; 15], memory: &'x M, at: u16, count: usize) -> Result<(), Refusal>
+fn judge<'x, M: Memory>(
+    table: &'x [u8; 15],
+    memory: &'x M,
+    at: u16,
+    count: usize,
+) -> Result<(), Refusal>
     ensures { λ r. ⌜ r ≡ judgeLook at count (shown (now (table .entry)) (mem (now (memory .entry)))) ⌝ }
 {
     let from = at as u32;
@@ -30,7 +35,11 @@ fn byte_at<M: Memory>(table: &[u8; 15], memory: &M, at: u16) -> u8
     ensures { λ r. ⌜ r ≡ bytesOf (shown (now (table .entry)) (mem (now (memory .entry)))) at ⌝ }
 {
     let entry = entry_of(table, at as u32 / 4096);
-    if entry.access() { memory.read(entry.page().address(at)) } else { 0 }
+    if entry.access() {
+        memory.read(entry.page().address(at))
+    } else {
+        0
+    }
 }
 
 // Fills the buffer with the bytes from an address on.

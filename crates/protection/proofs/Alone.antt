@@ -92,10 +92,11 @@ alone c w I o =
     subst (λ (d : Done). Alone j c d (solo c b (spaceAt w j))) (sym (is-act c w o))
     (record {
       said = refl;
-      goes = λ e.
-        ( same
-        , ap (λ (t : Table). shown t (back (b .table) (x .bytes) (w .mem))) (ap (λ (z : Job). z .table) same ∙ L .goes e .0) ∙ local (b .table) (x .bytes) (w .mem) (I .once j)
-        , ap (λ (z : Job). isOpen (z .status)) same ∙ L .goes e .1 ∙ o)
+      goes = λ e. (
+        same,
+        ap (λ (t : Table). shown t (back (b .table) (x .bytes) (w .mem))) (ap (λ (z : Job). z .table) same ∙ L .goes e .0) ∙ local (b .table) (x .bytes) (w .mem) (I .once j),
+        ap (λ (z : Job). isOpen (z .status)) same ∙ L .goes e .1 ∙ o,
+      );
     })
 
 alone-at : (j : ℕ) (c : Call) (w : World) → Inv w → isOpen (w .jobs j .status) ≡ true → names c ≡ j → Alone j c (does c w) (solo c (w .jobs j) (spaceAt w j))
@@ -134,8 +135,8 @@ module _ (j : ℕ) (w : World) (I : Inv w) (o : isOpen (w .jobs j .status) ≡ t
 
   -- One call of the job's own, where the list goes on so.
   said-own : (cs : List Call) → eqb (names c) j ≡ true
-    → ((v : World) → Inv v → isOpen (v .jobs j .status) ≡ true → uptoEnd (saidTo j cs v) ≡ soloSaid (callsTo j cs) (v .jobs j) (spaceAt v j))
-    → uptoEnd (record { call = c; answer = does c w .answer } ∷ saidTo j cs next) ≡ soloSaid (c ∷ callsTo j cs) (w .jobs j) (spaceAt w j)
+      → ((v : World) → Inv v → isOpen (v .jobs j .status) ≡ true → uptoEnd (saidTo j cs v) ≡ soloSaid (callsTo j cs) (v .jobs j) (spaceAt v j))
+      → uptoEnd (record { call = c; answer = does c w .answer } ∷ saidTo j cs next) ≡ soloSaid (c ∷ callsTo j cs) (w .jobs j) (spaceAt w j)
   unfolding uptoEnd soloSaid
   said-own cs e rec =
       ap (λ a. record { call = c; answer = a } ∷ cond (ends c a) [] (uptoEnd (saidTo j cs next))) (own-here e .said)
@@ -153,8 +154,8 @@ said-solo j [] w I o = refl
 said-solo j (c ∷ cs) w I o = go (eqb (names c) j) refl (said-solo j cs)
   where
     go : (z : Bool) → eqb (names c) j ≡ z
-      → ((v : World) → Inv v → isOpen (v .jobs j .status) ≡ true → uptoEnd (saidTo j cs v) ≡ soloSaid (callsTo j cs) (v .jobs j) (spaceAt v j))
-      → uptoEnd (cond z (record { call = c; answer = does c w .answer } ∷ saidTo j cs (does c w .world)) (saidTo j cs (does c w .world)))
+        → ((v : World) → Inv v → isOpen (v .jobs j .status) ≡ true → uptoEnd (saidTo j cs v) ≡ soloSaid (callsTo j cs) (v .jobs j) (spaceAt v j))
+        → uptoEnd (cond z (record { call = c; answer = does c w .answer } ∷ saidTo j cs (does c w .world)) (saidTo j cs (does c w .world)))
         ≡ soloSaid (cond z (c ∷ callsTo j cs) (callsTo j cs)) (w .jobs j) (spaceAt w j)
     go true e rec = said-own j w I o c cs e rec
     go false e rec =
@@ -168,19 +169,19 @@ abbrev restAt : World → ℕ → Rest
 restAt w j = record { job = w .jobs j; space = spaceAt w j }
 
 left-solo : (j : ℕ) (cs : List Call) (w : World) → Inv w → isOpen (w .jobs j .status) ≡ true → endless (saidTo j cs w) ≡ true
-  → restAt (after cs w) j ≡ soloLeft (callsTo j cs) (w .jobs j) (spaceAt w j)
+    → restAt (after cs w) j ≡ soloLeft (callsTo j cs) (w .jobs j) (spaceAt w j)
 unfolding endless saidTo callsTo soloLeft after
 left-solo j [] w I o q = refl
 left-solo j (c ∷ cs) w I o q = go (eqb (names c) j) refl (left-solo j cs) q
   where
     go : (z : Bool) → eqb (names c) j ≡ z
-      → ((v : World) → Inv v → isOpen (v .jobs j .status) ≡ true → endless (saidTo j cs v) ≡ true → restAt (after cs v) j ≡ soloLeft (callsTo j cs) (v .jobs j) (spaceAt v j))
-      → endless (cond z (record { call = c; answer = does c w .answer } ∷ saidTo j cs (does c w .world)) (saidTo j cs (does c w .world))) ≡ true
-      → restAt (after cs (does c w .world)) j ≡ soloLeft (cond z (c ∷ callsTo j cs) (callsTo j cs)) (w .jobs j) (spaceAt w j)
+        → ((v : World) → Inv v → isOpen (v .jobs j .status) ≡ true → endless (saidTo j cs v) ≡ true → restAt (after cs v) j ≡ soloLeft (callsTo j cs) (v .jobs j) (spaceAt v j))
+        → endless (cond z (record { call = c; answer = does c w .answer } ∷ saidTo j cs (does c w .world)) (saidTo j cs (does c w .world))) ≡ true
+        → restAt (after cs (does c w .world)) j ≡ soloLeft (cond z (c ∷ callsTo j cs) (callsTo j cs)) (w .jobs j) (spaceAt w j)
     go true e rec p =
         let h : Alone j c (does c w) (solo c (w .jobs j) (spaceAt w j)) = own-here j w I o c e in
         let n : ends c (solo c (w .jobs j) (spaceAt w j) .answer) ≡ false
-              = ap (ends c) (sym (h .said)) ∙ not-true (ends c (does c w .answer)) (and-left (not (ends c (does c w .answer))) (endless (saidTo j cs (does c w .world))) p) in
+        = ap (ends c) (sym (h .said)) ∙ not-true (ends c (does c w .answer)) (and-left (not (ends c (does c w .answer))) (endless (saidTo j cs (does c w .world))) p) in
         let g = h .goes n in
         rec (does c w .world) (inv-does c w I) (g .2) (and-right (not (ends c (does c w .answer))) (endless (saidTo j cs (does c w .world))) p)
         ∙ ap (λ b. soloLeft (callsTo j cs) b (spaceAt (does c w .world) j)) (g .0)
@@ -200,7 +201,7 @@ open-done j t start w =
     open-all (λ d. d .answer ≡ done → (d .world ≡ opened j t start w .world) × Apart t) j t start w (λ o q. (refl, o .once)) (λ e q. refused-done e q)
 
 open-left : (j : ℕ) (t : Table) (start : ℕ) (w : World) → does (opens j t start) w .answer ≡ done
-  → restAt (does (opens j t start) w .world) j ≡ record { job = openedJob t start; space = shown t (back t (λ a. 0) (w .mem)) }
+    → restAt (does (opens j t start) w .world) j ≡ record { job = openedJob t start; space = shown t (back t (λ a. 0) (w .mem)) }
 open-left j t start w e =
     ap (λ v. restAt v j) (open-done j t start w e .0)
     ∙ ap {B = Rest} (λ (b : Job). record { job = b; space = shown (b .table) (back t (λ a. 0) (w .mem)) }) (upd-same (w .jobs) j (openedJob t start))
@@ -220,7 +221,7 @@ same-job j v w e =
     let q : v .jobs j ≡ w .jobs j = ap (λ (l : Rest). l .job) e in
     record {
       same-record = q;
-      same-bytes = shown-tells (v .jobs j .table) (v .mem) (w .mem) (ap (λ (l : Rest). l .space) e ∙ ap (λ (b : Job). shown (b .table) (w .mem)) (sym q))
+      same-bytes = shown-tells (v .jobs j .table) (v .mem) (w .mem) (ap (λ (l : Rest). l .space) e ∙ ap (λ (b : Job). shown (b .table) (w .mem)) (sym q));
     }
 
 -- The calls up to the end are all that the answers come from, and all the calls where there is no end.
@@ -231,7 +232,7 @@ solo-cut (c ∷ cs) b s =
     ap (λ ss. record { call = c; answer = solo c b s .answer } ∷ ss) (go (ends c (solo c b s .answer)) (solo-cut cs (solo c b s .job) (solo c b s .space)))
   where
     go : (z : Bool) → soloSaid (callsOf (soloSaid cs (solo c b s .job) (solo c b s .space))) (solo c b s .job) (solo c b s .space) ≡ soloSaid cs (solo c b s .job) (solo c b s .space)
-      → _≡_ {A = List Said} (cond z [] (soloSaid (callsOf (cond z [] (soloSaid cs (solo c b s .job) (solo c b s .space)))) (solo c b s .job) (solo c b s .space)))
+        → _≡_ {A = List Said} (cond z [] (soloSaid (callsOf (cond z [] (soloSaid cs (solo c b s .job) (solo c b s .space)))) (solo c b s .job) (solo c b s .space)))
         (cond z [] (soloSaid cs (solo c b s .job) (solo c b s .space)))
     go true e = refl
     go false e = e
@@ -242,8 +243,8 @@ solo-whole [] b s e = refl
 solo-whole (c ∷ cs) b s e = ap (λ ds. c ∷ ds) (go (ends c (solo c b s .answer)) (solo-whole cs (solo c b s .job) (solo c b s .space)) e)
   where
     go : (z : Bool) → (endless (soloSaid cs (solo c b s .job) (solo c b s .space)) ≡ true → callsOf (soloSaid cs (solo c b s .job) (solo c b s .space)) ≡ cs)
-      → (not z && endless (cond z [] (soloSaid cs (solo c b s .job) (solo c b s .space)))) ≡ true
-      → callsOf (cond z [] (soloSaid cs (solo c b s .job) (solo c b s .space))) ≡ cs
+        → (not z && endless (cond z [] (soloSaid cs (solo c b s .job) (solo c b s .space)))) ≡ true
+        → callsOf (cond z [] (soloSaid cs (solo c b s .job) (solo c b s .space))) ≡ cs
     go true h q = clash false q refl
     go false h q = h q
 
@@ -268,9 +269,9 @@ module _ (j : ℕ) (v w : World) (I : Inv v) (J : Inv w) (o : isOpen (v .jobs j 
   same-left calls e f =
       same-job j (after cs v) (after ds w)
       (left-solo j cs v I o e
-        ∙ ap (λ (l : Rest). soloLeft (callsTo j cs) (l .job) (l .space)) same
-        ∙ ap (λ (es : List Call). soloLeft es (w .jobs j) (spaceAt w j)) calls
-        ∙ sym (left-solo j ds w J open-too f))
+      ∙ ap (λ (l : Rest). soloLeft (callsTo j cs) (l .job) (l .space)) same
+      ∙ ap (λ (es : List Call). soloLeft es (w .jobs j) (spaceAt w j)) calls
+      ∙ sym (left-solo j ds w J open-too f))
 
   end-too : uptoEnd (saidTo j cs v) ≡ uptoEnd (saidTo j ds w) → endless (saidTo j cs v) ≡ true → endless (saidTo j ds w) ≡ true
   end-too said e = sym (endless-upto (saidTo j ds w)) ∙ ap endless (sym said) ∙ endless-upto (saidTo j cs v) ∙ e
@@ -341,6 +342,8 @@ own-calls-to-end m n b₁ b₂ j t start s cs ds calls =
     let J : Inv w = inv-second m n b₁ b₂ j t start s in
     let o : isOpen (v .jobs j .status) ≡ true = is-open m n b₁ b₂ j t start s in
     let same : restAt v j ≡ restAt w j = starts m n b₁ b₂ j t start s in
-    let said : uptoEnd (saidTo j cs v) ≡ uptoEnd (saidTo j ds w) = cut-said j v w I J o same cs ds calls in
-    (said, λ e. let f : endless (saidTo j ds w) ≡ true = end-too j v w I J o same cs ds said e in
-      same-left j v w I J o same cs ds (cut-calls j v w I J o same cs ds calls e f) e f)
+    let said : uptoEnd (saidTo j cs v) ≡ uptoEnd (saidTo j ds w) = cut-said j v w I J o same cs ds calls in (
+      said,
+      λ e. let f : endless (saidTo j ds w) ≡ true = end-too j v w I J o same cs ds said e in
+          same-left j v w I J o same cs ds (cut-calls j v w I J o same cs ds calls e f) e f,
+    )

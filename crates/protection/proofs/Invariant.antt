@@ -56,13 +56,13 @@ record Fits (w : World) (j : ℕ) (t : Table) : Type 0 where
 
 inv-put : (w : World) → Inv w → (j : ℕ) (b : Job) (t : Table) (bs : ℕ → ℕ) → Fits w j (b .table) → Inv (record { jobs = upd (w .jobs) j b; mem = back t bs (w .mem) })
 inv-put w I j b t bs h = record {
-    once = λ k. upd-all (w .jobs) j b k (λ x. Apart (x .table)) (λ e. h .once) (λ e. I .once k);
-    aside = λ k l ne.
+  once = λ k. upd-all (w .jobs) j b k (λ x. Apart (x .table)) (λ e. h .once) (λ e. I .once k);
+  aside = λ k l ne.
       upd-all (w .jobs) j b k (λ x. Aside (w .mem) (x .table) (upd (w .jobs) j b l .table))
-        (λ e. upd-all (w .jobs) j b l (λ x. Aside (w .mem) (b .table) (x .table)) (λ q. absurd (ne (e ∙ sym q))) (λ q. h .aside l q))
-        (λ e. upd-all (w .jobs) j b l (λ x. Aside (w .mem) (w .jobs k .table) (x .table)) (λ q. aside-sym (w .mem) (b .table) (w .jobs k .table) (h .aside k e)) (λ q. I .aside k l ne));
-    low = λ k. upd-all (w .jobs) j b k (λ x. (i : ℕ) → accessIn (entryOf (x .table) i) ≡ true → k < 8) (λ e i a. subst (λ n. n < 8) (sym e) (h .low i a)) (λ e. I .low k)
-  }
+      (λ e. upd-all (w .jobs) j b l (λ x. Aside (w .mem) (b .table) (x .table)) (λ q. absurd (ne (e ∙ sym q))) (λ q. h .aside l q))
+      (λ e. upd-all (w .jobs) j b l (λ x. Aside (w .mem) (w .jobs k .table) (x .table)) (λ q. aside-sym (w .mem) (b .table) (w .jobs k .table) (h .aside k e)) (λ q. I .aside k l ne));
+  low = λ k. upd-all (w .jobs) j b k (λ x. (i : ℕ) → accessIn (entryOf (x .table) i) ≡ true → k < 8) (λ e i a. subst (λ n. n < 8) (sym e) (h .low i a)) (λ e. I .low k);
+}
 
 -- A closed record has a table without access.
 shut-entry : (n i : ℕ) → _≡_ {A = ℕ} (getD (replicate n 0) i 0) 0
@@ -75,10 +75,10 @@ shut-access i = let e : _≡_ {A = ℕ} (getD (replicate 15 0) i 0) 0 = shut-ent
 
 fits-shut : (w : World) (j : ℕ) → Fits w j (closedJob .table)
 fits-shut w j = record {
-    once = λ i l h. clash (accessIn (entryOf (closedJob .table) i)) (h .0) (shut-access i);
-    aside = λ k e i l a. clash (accessIn (entryOf (closedJob .table) i)) a (shut-access i);
-    low = λ i a. clash (accessIn (entryOf (closedJob .table) i)) a (shut-access i)
-  }
+  once = λ i l h. clash (accessIn (entryOf (closedJob .table) i)) (h .0) (shut-access i);
+  aside = λ k e i l a. clash (accessIn (entryOf (closedJob .table) i)) a (shut-access i);
+  low = λ i a. clash (accessIn (entryOf (closedJob .table) i)) a (shut-access i);
+}
 
 fits-self : (w : World) → Inv w → (j : ℕ) → Fits w j (w .jobs j .table)
 fits-self w I j = record { once = I .once j; aside = λ i e. I .aside j i (λ q. e (sym q)); low = I .low j }
@@ -90,8 +90,8 @@ inv-act over f law j w I =
     let L : Law over (w .jobs j) x = law (w .jobs j) (spaceAt w j) in
     inv-put w I j (x .job) (w .jobs j .table) (x .bytes)
     (by-test (over (x .answer))
-      (λ e. subst (λ (b : Job). Fits w j (b .table)) (sym (L .gone e)) (fits-shut w j))
-      (λ e. subst (λ (t : Table). Fits w j t) (sym (L .goes e .0)) (fits-self w I j)))
+    (λ e. subst (λ (b : Job). Fits w j (b .table)) (sym (L .gone e)) (fits-shut w j))
+    (λ e. subst (λ (t : Table). Fits w j t) (sym (L .goes e .0)) (fits-self w I j)))
 
 -- What is left of a job that a call does not name: its record and its space.
 pub record Leaves (i : ℕ) (v w : World) : Type 0 where
@@ -99,7 +99,7 @@ pub record Leaves (i : ℕ) (v w : World) : Type 0 where
   pub space : spaceAt w i ≡ spaceAt v i
 
 put-leaves : (w : World) (j i : ℕ) (b : Job) (t : Table) (bs : ℕ → ℕ) → i ≢ j → Aside (w .mem) t (w .jobs i .table)
-  → Leaves i w (record { jobs = upd (w .jobs) j b; mem = back t bs (w .mem) })
+    → Leaves i w (record { jobs = upd (w .jobs) j b; mem = back t bs (w .mem) })
 put-leaves w j i b t bs ne h =
     let same : upd (w .jobs) j b i ≡ w .jobs i = upd-other (w .jobs) j b i ne in
     record { job = same; space = ap (λ (x : Job). shown (x .table) (back t bs (w .mem))) same ∙ aside t (w .jobs i .table) bs (w .mem) h }
@@ -136,7 +136,7 @@ open-says j t w p =
     record {
       low = (let h : j ≤ 7 = ltb-false 7 j (when-no (ltb 7 j) _ (one .0)) in omega arith);
       once = once-apart t (ap isSome (nowhere PageNamedTwice (firstFrom 15 0 (againAt t)) (four .0)));
-      free = λ s h. none-passes (heldAt (w .jobs) (w .mem .takes) j t) 15 0 (nowhere PageHeld (firstFrom 15 0 (heldAt (w .jobs) (w .mem .takes) j t)) (six .0)) s (omega arith) (omega arith)
+      free = λ s h. none-passes (heldAt (w .jobs) (w .mem .takes) j t) 15 0 (nowhere PageHeld (firstFrom 15 0 (heldAt (w .jobs) (w .mem .takes) j t)) (six .0)) s (omega arith) (omega arith);
     }
 
 -- `any`, by one that passes.
@@ -158,16 +158,16 @@ free-aside : (j : ℕ) (t : Table) (w : World) → Inv w → Opens j t w → (k 
 unfolding heldBy
 free-aside j t w I o k ne i l a b e =
     not-so (w .mem .takes (pageOf t i)) (λ q.
-      let held : heldBy 8 (w .jobs) j (pageOf t i) ≡ true =
-            any-at 8 (λ n. not (eqb n j) && holds (w .jobs n .table) (pageOf t i)) k (I .low k l b)
-            (both (not (eqb k j)) (holds (w .jobs k .table) (pageOf t i)) (ap not (ne-eqb k j ne)) (ap (holds (w .jobs k .table)) e ∙ holds-at (w .jobs k .table) l b)) in
-      clash (heldAt (w .jobs) (w .mem .takes) j t i)
-      (both (accessIn (entryOf t i)) (w .mem .takes (pageOf t i) && heldBy 8 (w .jobs) j (pageOf t i)) a (both (w .mem .takes (pageOf t i)) (heldBy 8 (w .jobs) j (pageOf t i)) q held))
-      (o .free i (access-low t i a)))
+    let held : heldBy 8 (w .jobs) j (pageOf t i) ≡ true =
+    any-at 8 (λ n. not (eqb n j) && holds (w .jobs n .table) (pageOf t i)) k (I .low k l b)
+    (both (not (eqb k j)) (holds (w .jobs k .table) (pageOf t i)) (ap not (ne-eqb k j ne)) (ap (holds (w .jobs k .table)) e ∙ holds-at (w .jobs k .table) l b)) in
+    clash (heldAt (w .jobs) (w .mem .takes) j t i)
+    (both (accessIn (entryOf t i)) (w .mem .takes (pageOf t i) && heldBy 8 (w .jobs) j (pageOf t i)) a (both (w .mem .takes (pageOf t i)) (heldBy 8 (w .jobs) j (pageOf t i)) q held))
+    (o .free i (access-low t i a)))
 
 -- An opening is accepted, with what that says, or leaves the world.
 pub open-all : (Q : Done → Type 0) (j : ℕ) (t : Table) (start : ℕ) (w : World)
-  → (Opens j t w → Q (opened j t start w)) → ((e : Refusal) → Q (record { world = w; answer = refused e })) → Q (does (opens j t start) w)
+    → (Opens j t w → Q (opened j t start w)) → ((e : Refusal) → Q (record { world = w; answer = refused e })) → Q (does (opens j t start) w)
 open-all Q j t start w h g = go (judgeOpen j t w) refl
   where
     go : (z : Judgement) → judgeOpen j t w ≡ z → Q (unlessOpen z j t start w)
@@ -207,10 +207,10 @@ all-shut (suc n) (suc k) i = all-shut n k i
 
 pub inv-new : (m : Mem) → Inv (newWorld m)
 inv-new m = record {
-    once = λ j i l h. clash (accessIn (entryOf (newWorld m .jobs j .table) i)) (h .0) (all-shut 8 j i);
-    aside = λ i j ne n l a. clash (accessIn (entryOf (newWorld m .jobs i .table) n)) a (all-shut 8 i n);
-    low = λ j i a. clash (accessIn (entryOf (newWorld m .jobs j .table) i)) a (all-shut 8 j i)
-  }
+  once = λ j i l h. clash (accessIn (entryOf (newWorld m .jobs j .table) i)) (h .0) (all-shut 8 j i);
+  aside = λ i j ne n l a. clash (accessIn (entryOf (newWorld m .jobs i .table) n)) a (all-shut 8 i n);
+  low = λ j i a. clash (accessIn (entryOf (newWorld m .jobs j .table) i)) a (all-shut 8 j i);
+}
 
 pub inv-after : (cs : List Call) (w : World) → Inv w → Inv (after cs w)
 unfolding after

@@ -33,13 +33,18 @@ theirs = 92 ∷ replicate 14 0
 pub met : Met
 unfolding all mine theirs after callsTo firstFrom finds named backByte shown laidTo any heldBy
 met = record {
-    first = all 0; second = all 9;
-    before₁ = []; before₂ = opens 1 theirs 0 ∷ [];
-    job = 0; table = mine; start = 0;
-    opening = record { accepted-first = refl; accepted-second = refl; same-takes = λ p h. refl; same-fixed = λ x h f. clash true refl f };
-    calls₁ = asks 0 (runs 1) ∷ []; calls₂ = asks 1 (loads 0 (7 ∷ [])) ∷ asks 0 (runs 1) ∷ [];
-    same-calls = refl;
-    other-bytes = (0, λ e. let z : _≡_ {A = ℕ} 0 9 = e in omega arith);
-    other-jobs = (1, λ e. clash false (ap (λ (b : Job). isOpen (b .status)) e) refl);
-    changed = λ e. let z : _≡_ {A = ℕ} 1 0 = ap (λ (b : Job). b .steps) e in omega arith
-  }
+  first = all 0;
+  second = all 9;
+  before₁ = [];
+  before₂ = opens 1 theirs 0 ∷ [];
+  job = 0;
+  table = mine;
+  start = 0;
+  opening = record { accepted-first = refl; accepted-second = refl; same-takes = λ p h. refl; same-fixed = λ x h f. clash true refl f };
+  calls₁ = asks 0 (runs 1) ∷ [];
+  calls₂ = asks 1 (loads 0 (7 ∷ [])) ∷ asks 0 (runs 1) ∷ [];
+  same-calls = refl;
+  other-bytes = (0, λ e. let z : _≡_ {A = ℕ} 0 9 = e in omega arith);
+  other-jobs = (1, λ e. clash false (ap (λ (b : Job). isOpen (b .status)) e) refl);
+  changed = λ e. let z : _≡_ {A = ℕ} 1 0 = ap (λ (b : Job). b .steps) e in omega arith;
+}

@@ -34,10 +34,10 @@ MadeByOwn own =
     → SameOpening j t start (after before₁ (newWorld m)) (after before₂ (newWorld n))
     → (calls₁ calls₂ : List Call)
     → let v : World = does (opens j t start) (after before₁ (newWorld m)) .world in
-      let w : World = does (opens j t start) (after before₂ (newWorld n)) .world in
-      own j calls₁ v ≡ own j calls₂ w
-      → (uptoEnd (saidTo j calls₁ v) ≡ uptoEnd (saidTo j calls₂ w))
-        × (endless (saidTo j calls₁ v) ≡ true → SameJob j (after calls₁ v) (after calls₂ w))
+    let w : World = does (opens j t start) (after before₂ (newWorld n)) .world in
+    own j calls₁ v ≡ own j calls₂ w
+    → (uptoEnd (saidTo j calls₁ v) ≡ uptoEnd (saidTo j calls₂ w))
+    × (endless (saidTo j calls₁ v) ≡ true → SameJob j (after calls₁ v) (after calls₂ w))
 
 -- All calls that name the job, and only those up to and with the one that ends it.
 abbrev pub allCalls : ℕ → List Call → World → List Call
@@ -58,7 +58,7 @@ mayWrite b m p = writes (b .table) 15 p && m .takes p
 pub record Confined (c : Call) (w : World) : Type 0 where
   -- A byte outside the pages that take writes and that the called job holds before or after the call is as before.
   pub bytes : (x : ℕ) → mayChange (w .jobs (names c)) (w .mem) (x / 4096) ≡ false
-    → mayChange (does c w .world .jobs (names c)) (w .mem) (x / 4096) ≡ false → does c w .world .mem .byte x ≡ w .mem .byte x
+      → mayChange (does c w .world .jobs (names c)) (w .mem) (x / 4096) ≡ false → does c w .world .mem .byte x ≡ w .mem .byte x
   -- The pages that take writes are as before.
   pub takes : does c w .world .mem .takes ≡ w .mem .takes
   -- The other records are as before.
@@ -84,8 +84,8 @@ pub record Met : Type 0 where
   pub other-bytes : (x : ℕ) × (after before₁ (newWorld first) .mem .byte x ≢ after before₂ (newWorld second) .mem .byte x)
   pub other-jobs : (i : ℕ) × (after before₁ (newWorld first) .jobs i ≢ after before₂ (newWorld second) .jobs i)
   pub changed :
-    let v : World = does (opens job table start) (after before₁ (newWorld first)) .world in
-    after calls₁ v .jobs job ≢ v .jobs job
+      let v : World = does (opens job table start) (after before₁ (newWorld first)) .world in
+      after calls₁ v .jobs job ≢ v .jobs job
 
 -- The whole.
 pub record Protected : Type 0 where

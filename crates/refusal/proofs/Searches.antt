@@ -34,6 +34,6 @@ none-passes f zero from e k low high = absurd (omega arith)
 none-passes f (suc count) from e k low high = go (f from) refl e (λ p l. none-passes f count (from + 1) p k l (omega arith))
   where
     go : (z : Bool) → f from ≡ z → picked z from (firstFrom count (from + 1) f) ≡ None
-      → (firstFrom count (from + 1) f ≡ None → from + 1 ≤ k → f k ≡ false) → f k ≡ false
+        → (firstFrom count (from + 1) f ≡ None → from + 1 ≤ k → f k ≡ false) → f k ≡ false
     go true q p rest = some-none from p
     go false q p rest = ⊎-elim (λ (s : k ≡ from). ap f s ∙ q) (λ d. rest p (omega (arith, d))) (cases-eq k from)

@@ -83,7 +83,10 @@ impl Ground {
     pub fn at(self, place: u32) -> Refusal
         ensures { λ r. ⌜ r ≡ refusalOf self place ⌝ }
     {
-        Refusal { ground: self, place }
+        Refusal {
+            ground: self,
+            place,
+        }
     }
 
     // Refuses where the ground holds, at place 0.

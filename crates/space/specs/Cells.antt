@@ -33,7 +33,7 @@ storeOf s at b k =
       access = s k .access;
       takes = s k .takes;
       writable = s k .writable;
-      byte = cond (eqb k at && (s at .access && s at .writable)) b (s k .byte)
+      byte = cond (eqb k at && (s at .access && s at .writable)) b (s k .byte);
     }
 
 -- What a write through a space leaves as it is: who lends the memory, the table, the pages that take writes, and the bytes of the pages that the table does not let it write.

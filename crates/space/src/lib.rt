@@ -4,7 +4,6 @@ ghost use mathlib.Core.Path.{_≡_};
 ghost use mathlib.Core.Bool.{Bool};
 ghost use Prim.Native.Nat.{ℕ};
 ghost use Rattle.space.specs.Cells.{Cell, Frame, readOf, allowOf, storeOf};
-
 use stop::Fault;
 
 pub trait Space {

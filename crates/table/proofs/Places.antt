@@ -25,26 +25,26 @@ putIn m at b = record { byte = put (m .byte) at b; takes = m .takes }
 
 module _ (t : List ℕ) (apart : Apart t) where
   pub one-place : (k at : ℕ) → accessIn (entryOf t (k / 4096)) ≡ true → accessIn (entryOf t (at / 4096)) ≡ true
-    → physical t k ≡ physical t at → k ≡ at
+      → physical t k ≡ physical t at → k ≡ at
   one-place k at hk ha e =
       let page : pageIn (entryOf t (k / 4096)) ≡ pageIn (entryOf t (at / 4096)) = omega arith in
       let sector : k / 4096 ≡ at / 4096 = apart (k / 4096) (at / 4096) (hk, ha, page) in
       omega arith
 
   byte-at : (m : Mem) (at b k : ℕ) → accessIn (entryOf t (at / 4096)) ≡ true → writingIn (entryOf t (at / 4096)) ≡ true
-    → m .takes (pageIn (entryOf t (at / 4096))) ≡ true
-    → cond (accessIn (entryOf t (k / 4096))) (put (m .byte) (physical t at) b (physical t k)) 0 ≡ storeOf (cellsBy t m) at b k .byte
+      → m .takes (pageIn (entryOf t (at / 4096))) ≡ true
+      → cond (accessIn (entryOf t (k / 4096))) (put (m .byte) (physical t at) b (physical t k)) 0 ≡ storeOf (cellsBy t m) at b k .byte
   byte-at m at b k ha hw ht = let same = one-place k at in grind (arith, tells, same)
 
   stored-cells : (m : Mem) (at b : ℕ) → accessIn (entryOf t (at / 4096)) ≡ true → writingIn (entryOf t (at / 4096)) ≡ true
-    → m .takes (pageIn (entryOf t (at / 4096))) ≡ true → cellsBy t (putIn m (physical t at) b) ≡ storeOf (cellsBy t m) at b
+      → m .takes (pageIn (entryOf t (at / 4096))) ≡ true → cellsBy t (putIn m (physical t at) b) ≡ storeOf (cellsBy t m) at b
   stored-cells m at b ha hw ht =
       fun-ext
       (λ k. λ i. record {
         access = accessIn (entryOf t (k / 4096));
         takes = accessIn (entryOf t (k / 4096)) && m .takes (pageIn (entryOf t (k / 4096)));
         writable = accessIn (entryOf t (k / 4096)) && (writingIn (entryOf t (k / 4096)) && m .takes (pageIn (entryOf t (k / 4096))));
-        byte = byte-at m at b k ha hw ht i
+        byte = byte-at m at b k ha hw ht i;
       })
 
 -- A sector that may be written is among those that may write its page.
@@ -55,16 +55,18 @@ named t (suc n) i h ha hw =
 
 -- A byte put into a page that counts leaves the bytes of the pages that do not.
 others-at : (counts : ℕ → Bool) (byte : ℕ → ℕ) (p b k : ℕ) → counts (p / 4096) ≡ true
-  → cond (counts (k / 4096)) 0 (put byte p b k) ≡ cond (counts (k / 4096)) 0 (byte k)
+    → cond (counts (k / 4096)) 0 (put byte p b k) ≡ cond (counts (k / 4096)) 0 (byte k)
 others-at counts byte p b k h =
     ⊎-elim (λ e. let m : counts (k / 4096) ≡ true = ap (λ x. counts (x / 4096)) e ∙ h in simp m) (λ d. grind (arith, tells, d)) (cases-eq k p)
 
 stored-frame : (t : List ℕ) (l : ℕ) (m : Mem) (at b : ℕ) → (writes t 15 (physical t at / 4096) && m .takes (physical t at / 4096)) ≡ true
-  → frameBy l t (putIn m (physical t at) b) ≡ frameBy l t m
+    → frameBy l t (putIn m (physical t at) b) ≡ frameBy l t m
 stored-frame t l m at b h =
     λ i. record {
-      lender = l; table = t; takes = m .takes;
-      others = λ k. others-at (λ p. writes t 15 p && m .takes p) (m .byte) (physical t at) b k h i
+      lender = l;
+      table = t;
+      takes = m .takes;
+      others = λ k. others-at (λ p. writes t 15 p && m .takes p) (m .byte) (physical t at) b k h i;
     }
 
 -- An accepted write tells that the page takes writes.
@@ -74,8 +76,8 @@ accepted false r e = absurd (let z : _≡_ {A = ℕ} 0 1 = cc in omega arith)
 
 -- A write that the memory took, through an entry with access and writing.
 module _ (t : List ℕ) (apart : Apart t) (l : ℕ) (m m′ : Mem) (at b e p : ℕ)
-  (is : e ≡ entryOf t (at / 4096)) (place : p ≡ pageIn e * 4096 + at % 4096) (access : accessIn e ≡ true) (writing : writingIn e ≡ true)
-  (answered : _≡_ {A = Result (Unit {0}) Refusal} (Ok tt) (writeAnswer m p)) (changed : m′ ≡ stored m p b) where
+    (is : e ≡ entryOf t (at / 4096)) (place : p ≡ pageIn e * 4096 + at % 4096) (access : accessIn e ≡ true) (writing : writingIn e ≡ true)
+    (answered : _≡_ {A = Result (Unit {0}) Refusal} (Ok tt) (writeAnswer m p)) (changed : m′ ≡ stored m p b) where
   taken : m .takes (p / 4096) ≡ true
   taken = accepted (m .takes (p / 4096)) (refusalOf NoWrites p) answered
 

@@ -41,7 +41,7 @@ cellsBy t m at =
       access = accessIn (entryOf t (at / 4096));
       takes = accessIn (entryOf t (at / 4096)) && m .takes (pageIn (entryOf t (at / 4096)));
       writable = accessIn (entryOf t (at / 4096)) && (writingIn (entryOf t (at / 4096)) && m .takes (pageIn (entryOf t (at / 4096))));
-      byte = cond (accessIn (entryOf t (at / 4096))) (m .byte (physical t at)) 0
+      byte = cond (accessIn (entryOf t (at / 4096))) (m .byte (physical t at)) 0;
     }
 
 -- Whether one of the first n sectors may be written and names the page.

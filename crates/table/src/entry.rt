@@ -3,7 +3,6 @@ ghost use denote.Ref.{now};
 ghost use mathlib.Core.Path.{_≡_};
 ghost use Prim.Native.Nat.{ℕ, _/_};
 ghost use Rattle.table.specs.Tables.{entryOf, accessIn, writingIn, reservedIn, pageIn};
-
 use memory::page::Page;
 use memory::page::Sector;
 
@@ -43,7 +42,13 @@ impl Entry {
 pub fn entry_of(table: &[u8; 15], number: u32) -> Entry
     ensures { λ r. ⌜ r .bits ≡ entryOf (now (table .entry)) number ⌝ }
 {
-    if number < 15 { Entry { bits: table[number as usize] } } else { Entry { bits: 0 } }
+    if number < 15 {
+        Entry {
+            bits: table[number as usize],
+        }
+    } else {
+        Entry { bits: 0 }
+    }
 }
 
 // The entry of a sector.

@@ -5,14 +5,13 @@ ghost use mathlib.Core.Bool.{Bool, true, false};
 ghost use Prim.Native.Nat.{ℕ, _/_};
 ghost use Rattle.space.specs.Cells.{Cell, readOf, allowOf, storeOf};
 ghost use Rattle.table.specs.Tables.{cellsBy, frameBy, entryOf};
-
+use super::entry::Entry;
+use super::entry::entry_at;
+use super::sectors::Table;
 use memory::Memory;
 use memory::page::Sector;
 use space::Space;
 use stop::Fault;
-use super::entry::Entry;
-use super::entry::entry_at;
-use super::sectors::Table;
 
 // A table over a memory that is lent.
 #[derive(Drop)]

@@ -29,7 +29,7 @@ returns-in-Break-open g c =
     let all = open-refused file m p w (c .in-Continue-image .ensures tt .answer) (c .new-engine .ensures .world m) _ (c .in-Break-open .field-0 .0) opened in
     record {
       answer = q .1 ∙ ap (λ (e : Refusal). Err e) (q .2) ∙ sym (ap (λ (l : Launched). l .answer) all);
-      after = sym (ap (λ (l : Launched). l .world .mem) all)
+      after = sym (ap (λ (l : Launched). l .world .mem) all);
     }
 
 pub returns-in-Break-load-all : need.returns-in-Break-load-all
@@ -43,11 +43,11 @@ returns-in-Break-load-all g c =
     let q = err-from-errBy (c .from-residual-in-Break-load-all .result) (c .from-residual-in-Break-load-all .ensures .1) in
     let opened = ap₂ (λ (t : List ℕ) (s : ℕ). does (opens 0 t s) w) (sym (c .table .ensures)) (sym (c .start .ensures)) ∙ c .in-Continue-open .ensures tt in
     let all =
-      load-refused file m p w (c .in-Continue-image .ensures tt .answer) (c .new-engine .ensures .world m) v opened _ (c .in-Break-load-all .field-0 .0)
-      (c .in-Break-load-all .ensures tt ∙ ap (λ (bs : List BlockOf). loadsAll bs v) (c .blocks-2 .ensures)) in
+    load-refused file m p w (c .in-Continue-image .ensures tt .answer) (c .new-engine .ensures .world m) v opened _ (c .in-Break-load-all .field-0 .0)
+    (c .in-Break-load-all .ensures tt ∙ ap (λ (bs : List BlockOf). loadsAll bs v) (c .blocks-2 .ensures)) in
     record {
       answer = q .1 ∙ ap (λ (e : Refusal). Err e) (q .2) ∙ sym (ap (λ (l : Launched). l .answer) all);
-      after = sym (ap (λ (l : Launched). l .world .mem) all)
+      after = sym (ap (λ (l : Launched). l .world .mem) all);
     }
 
 pub returns-in-Break-run : need.returns-in-Break-run
@@ -62,11 +62,11 @@ returns-in-Break-run g c =
     let q = err-from-errBy (c .from-residual-in-Break-run .result) (c .from-residual-in-Break-run .ensures .1) in
     let opened = ap₂ (λ (t : List ℕ) (s : ℕ). does (opens 0 t s) w) (sym (c .table .ensures)) (sym (c .start .ensures)) ∙ c .in-Continue-open .ensures tt in
     let all =
-      run-refused file m p w (c .in-Continue-image .ensures tt .answer) (c .new-engine .ensures .world m) v opened u
-      (c .in-Continue-load-all .ensures tt ∙ ap (λ (bs : List BlockOf). loadsAll bs v) (c .blocks-2 .ensures)) _ (c .in-Break-run .field-0 .0) (c .in-Break-run .ensures tt) in
+    run-refused file m p w (c .in-Continue-image .ensures tt .answer) (c .new-engine .ensures .world m) v opened u
+    (c .in-Continue-load-all .ensures tt ∙ ap (λ (bs : List BlockOf). loadsAll bs v) (c .blocks-2 .ensures)) _ (c .in-Break-run .field-0 .0) (c .in-Break-run .ensures tt) in
     record {
       answer = q .1 ∙ ap (λ (e : Refusal). Err e) (q .2) ∙ sym (ap (λ (l : Launched). l .answer) all);
-      after = sym (ap (λ (l : Launched). l .world .mem) all)
+      after = sym (ap (λ (l : Launched). l .world .mem) all);
     }
 
 pub accumulator-requires : need.accumulator-requires
@@ -95,12 +95,12 @@ returns g c =
     let o = owedOf (c .in-Continue-run .field-0 .receipt) in
     let opened = ap₂ (λ (t : List ℕ) (s : ℕ). does (opens 0 t s) w) (sym (c .table .ensures)) (sym (c .start .ensures)) ∙ c .in-Continue-open .ensures tt in
     let all =
-      ran-out file m p w (c .in-Continue-image .ensures tt .answer) (c .new-engine .ensures .world m) v opened u
-      (c .in-Continue-load-all .ensures tt ∙ ap (λ (bs : List BlockOf). loadsAll bs v) (c .blocks-2 .ensures)) t r o (c .in-Continue-run .ensures tt) in
+    ran-out file m p w (c .in-Continue-image .ensures tt .answer) (c .new-engine .ensures .world m) v opened u
+    (c .in-Continue-load-all .ensures tt ∙ ap (λ (bs : List BlockOf). loadsAll bs v) (c .blocks-2 .ensures)) t r o (c .in-Continue-run .ensures tt) in
     record {
       answer =
-        ap {B = Result Figure Refusal} (λ (f : Figure). Ok f) (c .figure-of-figure .ensures)
-        ∙ ap {B = Result Figure Refusal} (λ a. Ok (record { stop = r .stop; steps = r .steps; a = a })) (c .accumulator .ensures)
-        ∙ sym (ap (λ (l : Launched). l .answer) all);
-      after = sym (ap (λ (l : Launched). l .world .mem) all ∙ settled-mem o t)
+          ap {B = Result Figure Refusal} (λ (f : Figure). Ok f) (c .figure-of-figure .ensures)
+          ∙ ap {B = Result Figure Refusal} (λ a. Ok (record { stop = r .stop; steps = r .steps; a = a })) (c .accumulator .ensures)
+          ∙ sym (ap (λ (l : Launched). l .answer) all);
+      after = sym (ap (λ (l : Launched). l .world .mem) all ∙ settled-mem o t);
     }

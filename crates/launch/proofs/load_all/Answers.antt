@@ -21,7 +21,7 @@ returns-in-Break-load g c =
     let p = err-from-errBy (c .from-residual .result) (c .from-residual .ensures .1) in
     ap (λ (r : Result (Unit {0}) Refusal). loadedBy r v) (p .1 ∙ ap (λ (e : Refusal). Err e) (p .2))
     ∙ load-stop (left (c .loop-block .rest)) (worldOf (c .args .engine .now .jobs) (g .M·Memory .mem (c .loop-block .memory))) (blockOf (c .in-Some .block)) (left (c .next .last .self)) v
-      (c .in-Break-load .field-0 .0) (c .in-Some .ensures tt) (c .in-Break-load .ensures tt)
+    (c .in-Break-load .field-0 .0) (c .in-Some .ensures tt) (c .in-Break-load .ensures tt)
     ∙ c .loop-block .inv
 
 pub returns : need.returns

@@ -7,5 +7,5 @@ returns c =
       value = c .closed .ensures;
       once = closed-once (c .closed .result) (c .closed .ensures);
       timed = closed-timed (c .closed .result) (c .closed .ensures);
-      called = closed-called (c .closed .result) (c .closed .ensures)
+      called = closed-called (c .closed .result) (c .closed .ensures);
     }

@@ -22,15 +22,15 @@ loop-s-again g c =
     let p = c .page-page .result .number in
     let leaves = turn-leaves (c .loop-s .s) e p (c .args .table .now) m m₁ (c .entry-of-entry .ensures) (c .page-page .ensures) (c .loop-s .inv) in
     elim (c .if-access .came) [
-      then-access·then-takes-writes w ↦
-        ap (g .M·Memory .mem) (w .memory-is)
-        ∙ turn-clears (c .loop-s .s) e p (c .args .table .now) m m₁ (c .entry-of-entry .ensures) (c .page-page .ensures) (c .loop-s .inv)
+      | then-access·then-takes-writes w ↦
+          ap (g .M·Memory .mem) (w .memory-is)
+          ∙ turn-clears (c .loop-s .s) e p (c .args .table .now) m m₁ (c .entry-of-entry .ensures) (c .page-page .ensures) (c .loop-s .inv)
           (g .M·Memory .mem (w .clear-page .last .memory)) (sym (c .access .ensures) ∙ w .if-access .taken) (sym (w .takes-writes .ensures) ∙ w .if-takes-writes .taken) (w .clear-page .ensures)
-    | else-access w ↦
-        ap (g .M·Memory .mem) (w .memory-is)
-        ∙ elim (w .else-access .came) [
-            else-access·by·then-access·else-takes-writes v ↦ leaves (and-right (accessIn e) (m₁ .takes p) (sym (v .takes-writes .ensures) ∙ v .if-takes-writes .left))
-          | else-access·by·else-access v ↦ leaves (and-left (accessIn e) (m₁ .takes p) (sym (c .access .ensures) ∙ v .if-access .left))
+      | else-access w ↦
+          ap (g .M·Memory .mem) (w .memory-is)
+          ∙ elim (w .else-access .came) [
+            | else-access·by·then-access·else-takes-writes v ↦ leaves (and-right (accessIn e) (m₁ .takes p) (sym (v .takes-writes .ensures) ∙ v .if-takes-writes .left))
+            | else-access·by·else-access v ↦ leaves (and-left (accessIn e) (m₁ .takes p) (sym (c .access .ensures) ∙ v .if-access .left))
           ]
     ]
 

@@ -20,7 +20,7 @@ returns-in-Err c =
     let b = jobsOf (c .args .self .now .jobs) j in
     record {
       world = λ m. refuses j (abandons (c .args .receipt .number)) (worldOf (c .args .self .now .jobs) m) _ (withheld (judgeReceipt j (c .args .receipt .number) b) b _ (c .in-Err .ensures tt));
-      handed = refl
+      handed = refl;
     }
 
 pub returns-in-Ok : need.returns-in-Ok
@@ -30,8 +30,8 @@ returns-in-Ok c =
     let took = given (judgeReceipt j (c .args .receipt .number) b) b _ (c .in-Ok .ensures tt) in
     record {
       world = λ m.
-        let w : World = worldOf (c .args .self .now .jobs) m in
-        accepts j (abandons (c .args .receipt .number)) w (took .0)
-        ∙ settles-record j w closedJob (jobsOf (c .vacate .last .self .jobs)) done (c .vacate .ensures);
-      handed = tt
+          let w : World = worldOf (c .args .self .now .jobs) m in
+          accepts j (abandons (c .args .receipt .number)) w (took .0)
+          ∙ settles-record j w closedJob (jobsOf (c .vacate .last .self .jobs)) done (c .vacate .ensures);
+      handed = tt;
     }

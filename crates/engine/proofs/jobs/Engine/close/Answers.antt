@@ -18,9 +18,9 @@ returns-in-Break-idle-record c =
     let b = jobsOf (c .args .self .now .jobs) j in
     let p = err-from-errBy (c .from-residual .result) (c .from-residual .ensures .1) in
     λ m.
-      let w : World = worldOf (c .args .self .now .jobs) m in
-      refuses j closes w (c .in-Break-idle-record .field-0 .0) (withheld (judgeClose j b) b _ (c .in-Break-idle-record .ensures tt))
-      ∙ ap {B = Done} (λ (r : Result (Unit {0}) Refusal). record { world = w; answer = doneAnswer r }) (sym (p .1 ∙ ap (λ (e : Refusal). Err e) (p .2)))
+    let w : World = worldOf (c .args .self .now .jobs) m in
+    refuses j closes w (c .in-Break-idle-record .field-0 .0) (withheld (judgeClose j b) b _ (c .in-Break-idle-record .ensures tt))
+    ∙ ap {B = Done} (λ (r : Result (Unit {0}) Refusal). record { world = w; answer = doneAnswer r }) (sym (p .1 ∙ ap (λ (e : Refusal). Err e) (p .2)))
 
 pub vacate-requires : need.vacate-requires
 vacate-requires c κs =
@@ -34,6 +34,6 @@ returns c =
     let b = jobsOf (c .args .self .now .jobs) j in
     let took = given (judgeClose j b) b _ (c .in-Continue-idle-record .ensures tt) in
     λ m.
-      let w : World = worldOf (c .args .self .now .jobs) m in
-      accepts j closes w (took .0)
-      ∙ settles-record j w closedJob (jobsOf (c .vacate .last .self .jobs)) done (c .vacate .ensures)
+    let w : World = worldOf (c .args .self .now .jobs) m in
+    accepts j closes w (took .0)
+    ∙ settles-record j w closedJob (jobsOf (c .vacate .last .self .jobs)) done (c .vacate .ensures)

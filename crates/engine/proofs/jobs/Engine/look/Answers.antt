@@ -22,10 +22,10 @@ returns-in-Break-record g c =
     let p = err-from-errBy (c .from-residual .result) (c .from-residual .ensures .1) in
     record {
       world =
-        refuses j (looks (c .args .at) (length (c .args .out .now))) w (c .in-Break-record .field-0 .0)
-        (stopped (noSuchJob j) (notOpen b) _ _ (withheld (judgeOpenJob j b) b _ (c .in-Break-record .ensures tt)))
-        ∙ ap {B = Done} (λ (r : Result (Unit {0}) Refusal). record { world = w; answer = lookAnswer r (c .args .out .now) }) (sym (p .1 ∙ ap (λ (e : Refusal). Err e) (p .2)));
-      untouched = rw (p .1) refl
+          refuses j (looks (c .args .at) (length (c .args .out .now))) w (c .in-Break-record .field-0 .0)
+          (stopped (noSuchJob j) (notOpen b) _ _ (withheld (judgeOpenJob j b) b _ (c .in-Break-record .ensures tt)))
+          ∙ ap {B = Done} (λ (r : Result (Unit {0}) Refusal). record { world = w; answer = lookAnswer r (c .args .out .now) }) (sym (p .1 ∙ ap (λ (e : Refusal). Err e) (p .2)));
+      untouched = rw (p .1) refl;
     }
 
 pub returns : need.returns
@@ -36,7 +36,7 @@ returns g c =
     let took = given (judgeOpenJob j b) b (c .in-Continue-record .record) (c .in-Continue-record .ensures tt) in
     record {
       world =
-        look-settles j (c .args .at) w (c .args .out .now) (c .look .last .out) (took .0) (c .in-Continue-record .record .table) (c .look .result)
-        (ap (λ (x : Job). x .table) (took .1)) (c .look .ensures .answer) (c .look .ensures .after);
-      untouched = look-leaves (c .look .result) (c .args .out .now) (c .look .last .out) _ (c .look .ensures .after)
+          look-settles j (c .args .at) w (c .args .out .now) (c .look .last .out) (took .0) (c .in-Continue-record .record .table) (c .look .result)
+          (ap (λ (x : Job). x .table) (took .1)) (c .look .ensures .answer) (c .look .ensures .after);
+      untouched = look-leaves (c .look .result) (c .args .out .now) (c .look .last .out) _ (c .look .ensures .after);
     }

@@ -13,8 +13,13 @@ returns c = record { world = λ m. ap (λ (js : List Job). worldOf js m) (c .clo
 
 pub ghost-result : need.ghost-result
 ghost-result c =
-    let e = sym (c .closed-jobs .ensures) in
-    ( subst (λ (js : List Job). (j : ℕ) → twice (jobsOf js j .table) ≡ false) e new-once
-    , (subst (λ (js : List Job). (j : ℕ) → jobsOf js j .time ≤ jobsOf js j .steps * 4294967295) e new-timed
-    , (subst (λ (js : List Job). (j : ℕ) → jobsOf js j .calls ≤ jobsOf js j .steps) e new-called
-    , tt)))
+    let e = sym (c .closed-jobs .ensures) in (
+      subst (λ (js : List Job). (j : ℕ) → twice (jobsOf js j .table) ≡ false) e new-once,
+      (
+        subst (λ (js : List Job). (j : ℕ) → jobsOf js j .time ≤ jobsOf js j .steps * 4294967295) e new-timed,
+        (
+          subst (λ (js : List Job). (j : ℕ) → jobsOf js j .calls ≤ jobsOf js j .steps) e new-called,
+          tt,
+        ),
+      ),
+    )

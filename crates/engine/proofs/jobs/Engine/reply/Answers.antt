@@ -15,7 +15,7 @@ returns-in-Err c =
     let b = jobsOf (c .args .self .now .jobs) j in
     record {
       world = λ m. refuses j (replies n (c .args .registers)) (worldOf (c .args .self .now .jobs) m) _ (withheld (judgeReceipt j n b) b _ (c .in-Err .ensures tt));
-      handed = refl
+      handed = refl;
     }
 
 pub returns-in-Ok : need.returns-in-Ok
@@ -27,8 +27,8 @@ returns-in-Ok c =
     let seat : c .replied .result ≡ repliedJob b (c .args .registers) = c .replied .ensures ∙ ap (λ (x : Job). repliedJob x (c .args .registers)) (took .1) in
     record {
       world = λ m.
-        let w : World = worldOf (c .args .self .now .jobs) m in
-        accepts j (replies n (c .args .registers)) w (took .0)
-        ∙ settles-record j w (repliedJob b (c .args .registers)) (jobsOf (c .set-record .last .self .jobs)) done (c .set-record .ensures ∙ ap (upd (w .jobs) j) seat);
-      handed = tt
+          let w : World = worldOf (c .args .self .now .jobs) m in
+          accepts j (replies n (c .args .registers)) w (took .0)
+          ∙ settles-record j w (repliedJob b (c .args .registers)) (jobsOf (c .set-record .last .self .jobs)) done (c .set-record .ensures ∙ ap (upd (w .jobs) j) seat);
+      handed = tt;
     }

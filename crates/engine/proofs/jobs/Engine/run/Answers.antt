@@ -41,8 +41,8 @@ returns g c =
     let put : jobsOf (c .set-record .last .self .jobs) ≡ upd (w .jobs) j (ranJob b r cpu) = c .set-record .ensures ∙ ap (upd (w .jobs) j) seat in
     accepts j (runs n) w (took .0)
     ∙ run-settles j n w cpu r (jobsOf (c .set-record .last .self .jobs)) m _
-      (run-at (c .table-of-table .result .entries) (b .table) n r (c .in-Continue-record .record .processor) (b .processor) cpu m (w .mem) table (ap (λ (x : Job). x .processor) same) (c .run-job-run .ensures .all))
-      (frame-at (c .table-of-table .result .entries) (b .table) m (w .mem) table (c .run-job-run .ensures .kept))
-      put
-      (c .receipt-for .ensures ∙ ap (owedBy (r .stop) j) (c .latest-call-number .ensures)
-        ∙ ap (λ (f : ℕ → Job). owedBy (r .stop) j (f j .calls)) put ∙ ap (λ (x : Job). owedBy (r .stop) j (x .calls)) (upd-same (w .jobs) j (ranJob b r cpu)))
+    (run-at (c .table-of-table .result .entries) (b .table) n r (c .in-Continue-record .record .processor) (b .processor) cpu m (w .mem) table (ap (λ (x : Job). x .processor) same) (c .run-job-run .ensures .all))
+    (frame-at (c .table-of-table .result .entries) (b .table) m (w .mem) table (c .run-job-run .ensures .kept))
+    put
+    (c .receipt-for .ensures ∙ ap (owedBy (r .stop) j) (c .latest-call-number .ensures)
+    ∙ ap (λ (f : ℕ → Job). owedBy (r .stop) j (f j .calls)) put ∙ ap (λ (x : Job). owedBy (r .stop) j (x .calls)) (upd-same (w .jobs) j (ranJob b r cpu)))

@@ -23,10 +23,10 @@ returns-in-Break-record c =
     let was : c .from-residual .result ≡ Err (c .in-Break-record .field-0 .0) = p .1 ∙ ap (λ (e : Refusal). Err e) (p .2) in
     record {
       world = λ m.
-        let w : World = worldOf (c .args .self .now .jobs) m in
-        refuses j states w (c .in-Break-record .field-0 .0) (withheld (judgeOpenJob j b) b _ (c .in-Break-record .ensures tt))
-        ∙ ap {B = Done} (λ (r : Result (Unit {0}) Refusal). record { world = w; answer = stateAnswer r (c .args .out .now) }) (sym was);
-      untouched = rw (p .1) refl
+          let w : World = worldOf (c .args .self .now .jobs) m in
+          refuses j states w (c .in-Break-record .field-0 .0) (withheld (judgeOpenJob j b) b _ (c .in-Break-record .ensures tt))
+          ∙ ap {B = Done} (λ (r : Result (Unit {0}) Refusal). record { world = w; answer = stateAnswer r (c .args .out .now) }) (sym was);
+      untouched = rw (p .1) refl;
     }
 
 pub returns : need.returns
@@ -36,8 +36,8 @@ returns c =
     let took = given (judgeOpenJob j b) b (c .in-Continue-record .record) (c .in-Continue-record .ensures tt) in
     record {
       world = λ m.
-        let w : World = worldOf (c .args .self .now .jobs) m in
-        accepts j states w (took .0) ∙ settles-answer j w (told (stateOf b))
-        ∙ ap {B = Done} (λ (s : State). record { world = w; answer = told s }) (sym (c .show .ensures ∙ ap stateOf (took .1)));
-      untouched = tt
+          let w : World = worldOf (c .args .self .now .jobs) m in
+          accepts j states w (took .0) ∙ settles-answer j w (told (stateOf b))
+          ∙ ap {B = Done} (λ (s : State). record { world = w; answer = told s }) (sym (c .show .ensures ∙ ap stateOf (took .1)));
+      untouched = tt;
     }

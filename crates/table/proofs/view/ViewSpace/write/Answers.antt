@@ -23,5 +23,5 @@ returns-in-Ok g c =
     record {
       answer = store-allowed t apart l m m′ (c .args .at) (c .args .b) e p (c .entry-entry .ensures) place access writing answer after;
       after = store-cells t apart l m m′ (c .args .at) (c .args .b) e p (c .entry-entry .ensures) place access writing answer after;
-      kept = store-frame t apart l m m′ (c .args .at) (c .args .b) e p (c .entry-entry .ensures) place access writing answer after
+      kept = store-frame t apart l m m′ (c .args .at) (c .args .b) e p (c .entry-entry .ensures) place access writing answer after;
     }
