@@ -32,9 +32,9 @@ pub struct Sealed {
 
 // The buffers as a memory. If either has another length it shows zeros and takes no writes.
 #[derive(Drop)]
-pub struct TwinBoard<'a> {
+pub struct TwinBoard<'a, 'b> {
     lower: &'a mut [u8],
-    upper: &'a [u8],
+    upper: &'b [u8],
     sealed: PageSet,
 }
 
@@ -107,7 +107,7 @@ impl Filling {
 }
 
 impl Sealed {
-    pub fn board<'a>(self, lower: &'a mut [u8], upper: &'a [u8]) -> TwinBoard<'a>
+    pub fn board<'a, 'b>(self, lower: &'a mut [u8], upper: &'b [u8]) -> TwinBoard<'a, 'b>
         ensures writing { λ r. ⌜ now (r .lower) ≡ now (lower .entry) ⌝ }
         ensures reading { λ r. ⌜ now (r .upper) ≡ now (upper .entry) ⌝ }
         ensures sealed { λ r. ⌜ r .sealed ≡ self .pages ⌝ }
@@ -120,7 +120,7 @@ impl Sealed {
     }
 }
 
-impl TwinBoard<'_> {
+impl TwinBoard<'_, '_> {
     // Whether both buffers have their length.
     fn right(&self) -> bool
         ensures { λ r. ⌜ r ≡ bothRight (now (now (self .entry) .lower)) (now (now (self .entry) .upper)) ⌝ }
@@ -137,7 +137,7 @@ impl TwinBoard<'_> {
     }
 }
 
-pub impl<'a> Memory for TwinBoard<'a> as TwinBoardMemory {
+pub impl<'a, 'b> Memory for TwinBoard<'a, 'b> as TwinBoardMemory {
     ghost mem = { λ b. twinShows b };
 
     fn read(&self, at: u16) -> u8 {
