@@ -40,7 +40,7 @@ pub struct Seen {
 }
 
 // Abandons what is owed, which is accepted.
-pub fn abandon_owed(engine: &mut Engine, receipt: Option<Receipt>)
+pub(crate) fn abandon_owed(engine: &mut Engine, receipt: Option<Receipt>)
     requires { ⌜ Acceptable (owedOf receipt) (jobsOf (now engine .jobs)) ⌝ }
 {
     if let Some(owed) = receipt {

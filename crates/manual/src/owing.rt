@@ -16,7 +16,7 @@ use model::job::Registers;
 use refusal::Refusal;
 
 // A run of job 8, which there is none of.
-pub fn run_eighth<M: Memory>(engine: &mut Engine, memory: &mut M) -> Refusal {
+pub(crate) fn run_eighth<M: Memory>(engine: &mut Engine, memory: &mut M) -> Refusal {
     match engine.run(memory, 8, 9) {
         Ok(_) => unreachable(),
         Err(refusal) => refusal,
