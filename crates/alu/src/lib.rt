@@ -1,4 +1,6 @@
 // The arithmetic and logic unit: eight operations on two bytes and the carry, and three shifts.
+#![tactic(auto)]
+
 ghost use Rattle.std.specs.Prelude.{◌≡◌};
 ghost use Rattle.alu.specs.Operations.{parity_of, flags_of, result_of, shifted_of};
 

@@ -1,4 +1,5 @@
 // Boards: memories over buffers that the host lends.
+#![tactic(auto)]
 mod fills;
 pub mod single;
 pub mod twin;

@@ -1,4 +1,6 @@
 // From an op code, and the selecting byte before it, to an instruction or a fault.
+#![tactic(auto)]
+
 ghost use Rattle.std.specs.Prelude.{◌≡◌, ℕ, ◌/◌, ◌%◌, ◌<◌, ◌≤◌};
 ghost use Rattle.decode.specs.Digits.{register_of, flag_of, operation_of, source_of, selector_of, implied_by, pair_by};
 ghost use Rattle.decode.specs.Patterns.{first_plain_of, first_after_of, first_of, second_of, last_of, decode_of};

@@ -1,4 +1,6 @@
 // Image files: five fixed bytes, a table, a starting address, and blocks of bytes to the end.
+#![tactic(auto)]
+
 ghost use Rattle.std.specs.Prelude.{◌≡◌, ℕ, ◌+◌, ◌≤◌, Bool, true, false, length};
 ghost use Rattle.image.specs.Files.{image_of, begins, blocks_end};
 ghost use Rattle.image.specs.Parts.{parsed, image_blocks, left, Stands, Visits};

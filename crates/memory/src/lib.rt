@@ -1,4 +1,6 @@
 // A memory of 65,536 bytes in sixteen pages of 4,096.
+#![tactic(auto)]
+
 ghost use Rattle.std.specs.Prelude.{◌≡◌, ℕ, ◌+◌, ◌*◌, ◌/◌, ◌<◌, ◌≤◌, Bool, true, false};
 ghost use Rattle.memory.specs.Memories.{Mem, write_answer, stored};
 

@@ -1,4 +1,5 @@
 // The processor: one step over any space.
+#![tactic(auto)]
 ghost use Rattle.std.specs.Prelude.{◌≡◌};
 ghost use Rattle.processor.specs.Steps.{stepped, step_of};
 

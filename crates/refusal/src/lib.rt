@@ -1,4 +1,6 @@
 // Why a call was refused, and where.
+#![tactic(auto)]
+
 ghost use Rattle.std.specs.Prelude.{◌≡◌, ℕ, Some};
 ghost use Rattle.refusal.specs.Grounds.{number_of, refusal_of};
 ghost use Rattle.refusal.specs.Lines.{line_of};

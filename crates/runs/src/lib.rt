@@ -1,4 +1,5 @@
 // Runs: step after step, up to a limit or a stop.
+#![tactic(auto)]
 ghost use Rattle.std.specs.Prelude.{◌≡◌, ℕ, ◌*◌, ◌≤◌};
 ghost use Rattle.runs.specs.Runs.{ran, run_of, calls_in};
 ghost use Rattle.runs.specs.Laws.{RunLaws, StepLaws};

@@ -1,4 +1,6 @@
 // The first number of a range that passes a test: how a refusal finds its place.
+#![tactic(auto)]
+
 ghost use Rattle.std.specs.Prelude.{◌≡◌, Bool, ℕ, ◌-◌};
 ghost use Rattle.refusal.specs.Judging.{first_from};
 

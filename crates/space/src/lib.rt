@@ -1,4 +1,6 @@
 // A space: what a job sees at each of its 65,536 addresses. The processor runs over any space.
+#![tactic(auto)]
+
 ghost use Rattle.std.specs.Prelude.{◌≡◌, ℕ, Bool};
 ghost use Rattle.space.specs.Cells.{Cell, Frame, read_of, allow_of, store_of};
 

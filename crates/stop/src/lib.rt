@@ -1,4 +1,6 @@
 // Why a run stopped.
+#![tactic(auto)]
+
 ghost use Rattle.std.specs.Prelude.{◌≡◌, ℕ};
 ghost use Rattle.stop.specs.Stops.{number_of, trap_number, fault_number};
 

@@ -1,4 +1,6 @@
 // A line's words, parted by blanks; `#` begins a comment.
+#![tactic(auto)]
+
 pub mod numbers;
 
 ghost use Rattle.std.specs.Prelude.{◌≡◌, ◌≤◌, length, take};
