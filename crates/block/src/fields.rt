@@ -9,8 +9,8 @@ use space::Space;
 use stop::Fault;
 
 fn field_element<S: Space>(op: Operation, bank: &mut Bank, space: &mut S) -> Result<(), Fault>
-    ensures all { after result bank.new (cells space.new) ≡ field_element_of op bank.old (cells space.old) }
-    ensures kept { frame space.new ≡ frame space.old }
+    ensures all { after result bank.new (S.cells space.new) ≡ field_element_of op bank.old (S.cells space.old) }
+    ensures kept { S.frame space.new ≡ S.frame space.old }
 {
     let from = bank.pair(Pair::HL);
     let to = bank.pair(Pair::DE);
@@ -32,8 +32,8 @@ pub fn width_of(c: u8) -> u8
 
 // The elements before a fault stand, with the flags from before the instruction.
 pub fn run_field<S: Space>(op: Operation, bank: &mut Bank, space: &mut S) -> Result<(), Fault>
-    ensures all { after result bank.new (cells space.new) ≡ field_of op bank.old (cells space.old) }
-    ensures kept { frame space.new ≡ frame space.old }
+    ensures all { after result bank.new (S.cells space.new) ≡ field_of op bank.old (S.cells space.old) }
+    ensures kept { S.frame space.new ≡ S.frame space.old }
 {
     let flags = bank.flags;
     let mut left = width_of(bank.c);

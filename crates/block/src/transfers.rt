@@ -27,8 +27,8 @@ pub struct Transfer {
 
 // One element of BT or BTR: the stored byte with B added to it.
 fn transfer_element<S: Space>(bank: &mut Bank, space: &mut S, by: u16) -> Result<u16, Fault>
-    ensures all { after result bank.new (cells space.new) ≡ element_of by bank.old (cells space.old) }
-    ensures kept { frame space.new ≡ frame space.old }
+    ensures all { after result bank.new (S.cells space.new) ≡ element_of by bank.old (S.cells space.old) }
+    ensures kept { S.frame space.new ≡ S.frame space.old }
 {
     let from = bank.pair(Pair::HL);
     let to = bank.pair(Pair::DE);
@@ -41,8 +41,8 @@ fn transfer_element<S: Space>(bank: &mut Bank, space: &mut S, by: u16) -> Result
 
 // One element of BCV: the byte at DE by the table at HL, which does not leave the 256 bytes of H.
 fn convert_element<S: Space>(bank: &mut Bank, space: &mut S) -> Result<u16, Fault>
-    ensures all { after result bank.new (cells space.new) ≡ converted_of bank.old (cells space.old) }
-    ensures kept { frame space.new ≡ frame space.old }
+    ensures all { after result bank.new (S.cells space.new) ≡ converted_of bank.old (S.cells space.old) }
+    ensures kept { S.frame space.new ≡ S.frame space.old }
 {
     let to = bank.pair(Pair::DE);
     let place = space.read(to)?.wrapping_add(bank.l);
@@ -54,8 +54,8 @@ fn convert_element<S: Space>(bank: &mut Bank, space: &mut S) -> Result<u16, Faul
 }
 
 fn element<S: Space>(kind: Block, bank: &mut Bank, space: &mut S) -> Result<u16, Fault>
-    ensures all { after result bank.new (cells space.new) ≡ element_by kind bank.old (cells space.old) }
-    ensures kept { frame space.new ≡ frame space.old }
+    ensures all { after result bank.new (S.cells space.new) ≡ element_by kind bank.old (S.cells space.old) }
+    ensures kept { S.frame space.new ≡ S.frame space.old }
 {
     match kind {
         Block::Forward => transfer_element(bank, space, 1),
@@ -73,8 +73,8 @@ fn finish(bank: &mut Bank, sum: u16)
 
 // Element after element, up to a match, the count of C, where 0 stands for 256, or a fault. The elements before a fault stand.
 pub fn run_block<S: Space>(kind: Block, bank: &mut Bank, space: &mut S) -> Result<Transfer, Fault>
-    ensures all { after result bank.new (cells space.new) ≡ block_of kind bank.old (cells space.old) }
-    ensures kept { frame space.new ≡ frame space.old }
+    ensures all { after result bank.new (S.cells space.new) ≡ block_of kind bank.old (S.cells space.old) }
+    ensures kept { S.frame space.new ≡ S.frame space.old }
 {
     let mut elements = 0;
     loop {

@@ -14,7 +14,7 @@ pub trait Test {
 
 // The first number from `from` up to but not `end` that passes.
 pub fn first_in<T: Test>(test: &T, from: u32, end: u32) -> Option<u32>
-    ensures { result ≡ first_from (end - from) from (holds test.now) }
+    ensures { result ≡ first_from (end - from) from (T.holds test.now) }
 {
     for n in from..end {
         if test.test(n) {

@@ -12,10 +12,10 @@ returns-in-default c = ends c.args.file.now c.args.offset (search rules)
 pub returns-then-size-rest : goal.returns-then-size-rest
 returns-then-size-rest c =
     ends c.args.file.now c.args.offset
-    (none_at c.args.file.now c.args.offset c.from-be-bytes-size.result c.from-be-bytes-size.ensures c.if-size-rest.true)
+    (none_at c.args.file.now c.args.offset c.from_be_bytes-size.result c.from_be_bytes-size.ensures c.if-size-rest.true)
 
 pub returns : goal.returns
 returns c =
     heads c.args.file.now c.args.offset _
-    (some_at c.args.file.now c.args.offset c.from-be-bytes-address.result c.from-be-bytes-size.result
-    c.from-be-bytes-address.ensures c.from-be-bytes-size.ensures (search rules) c.if-size-rest.false)
+    (some_at c.args.file.now c.args.offset c.from_be_bytes-address.result c.from_be_bytes-size.result
+    c.from_be_bytes-address.ensures c.from_be_bytes-size.ensures (search rules) c.if-size-rest.false)

@@ -7,7 +7,7 @@ use Rattle.block.proofs.fields.run_field.Goals as goal
 pub loop-left-preserved : goal.loop-left-preserved
 loop-left-preserved g c = (
   field_turn c.args.op c.args.bank.now.flags c.loop-left.left c.loop-left.bank (g.S.Space.cells c.loop-left.space)
-      (after (Ok tt) c.field-element.new.bank (g.S.Space.cells c.field-element.new.space)) (omega arith) c.in-Ok.ensures.all
+      (after (Ok tt) c.field_element.new.bank (g.S.Space.cells c.field_element.new.space)) (omega arith) c.in-Ok.ensures.all
       ∙ c.loop-left.invariant.0,
   c.in-Ok.ensures.kept ∙ c.loop-left.invariant.1,
 )
@@ -17,9 +17,9 @@ returns-in-Err g c =
     record {
       all =
           field_turn c.args.op c.args.bank.now.flags c.loop-left.left c.loop-left.bank (g.S.Space.cells c.loop-left.space)
-          (after (Err c.in-Err.fault) c.field-element.new.bank (g.S.Space.cells c.field-element.new.space)) (omega arith)
+          (after (Err c.in-Err.fault) c.field_element.new.bank (g.S.Space.cells c.field_element.new.space)) (omega arith)
           c.in-Err.ensures.all
           ∙ c.loop-left.invariant.0
-          ∙ ap (λ w. field_from c.args.op c.args.bank.now.flags w c.args.bank.now (g.S.Space.cells c.args.space.now)) c.width-of-left.ensures;
+          ∙ ap (λ w. field_from c.args.op c.args.bank.now.flags w c.args.bank.now (g.S.Space.cells c.args.space.now)) c.width_of-left.ensures;
       kept = c.in-Err.ensures.kept ∙ c.loop-left.invariant.1;
     }

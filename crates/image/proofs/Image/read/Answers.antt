@@ -11,7 +11,7 @@ returns c =
     let end : blocks_end file 22 ≡ length file = omega arith in
     record {
       answer =
-          ap₂ (λ x y. Ok (record { table = x; start = y; blocks = blocks_from file 22 })) c.copy-from-slice.ensures.after c.from-be-bytes-start.ensures
-          ∙ sym (accepted file c.if-file-gt16384.false (sym c.begins-image.ensures ∙ c.if-not-begins-image.false) c.if-file-lt22.false whole);
+          ap₂ (λ x y. Ok (record { table = x; start = y; blocks = blocks_from file 22 })) c.copy_from_slice.ensures.after c.from_be_bytes-start.ensures
+          ∙ sym (accepted file c.if-file-gt16384.false (sym c.begins_image.ensures ∙ c.if-not-begins-image.false) c.if-file-lt22.false whole);
       tiled = tiles (length file) file 22 end;
     }

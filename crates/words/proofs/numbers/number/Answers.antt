@@ -16,4 +16,4 @@ pub returns-then-is-empty : goal.returns-then-is-empty
 returns-then-is-empty c = no_digit c.args.most c.args.word.now (sym c.if-is-empty.ensures)
 
 pub returns : goal.returns
-returns c = c.spell.ensures ∙ digits c.args.most c.args.word.now (sym c.if-is-empty.ensures)
+returns c = c.spell.ensures ∙ digits c.args.most c.args.word.now (sym c.if-is_empty.ensures)

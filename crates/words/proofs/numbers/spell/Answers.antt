@@ -13,14 +13,14 @@ pub returns-then-value-most : goal.returns-then-value-most
 returns-then-value-most c =
     let l = c.args.word.now in
     let i = c.loop-b.b-index in
-    sym (spelled_large c.args.most c.loop-b.value (drop i l) _ _ (from_index l i c.loop-b-test.true) (sym c.if-not-is-digit.ensures) (lt-leb _ _ c.if-value-most.true))
+    sym (spelled_large c.args.most c.loop-b.value (drop i l) _ _ (from_index l i c.loop-b-test.true) (sym c.if-not-is_digit.ensures) (lt-leb _ _ c.if-value-most.true))
     ∙ c.loop-b.invariant.0
 
 pub loop-b-preserved : goal.loop-b-preserved
 loop-b-preserved c =
     let l = c.args.word.now in
     let i = c.loop-b.b-index in (
-      sym (spelled_more c.args.most c.loop-b.value (drop i l) _ _ (from_index l i c.loop-b-test.true) (sym c.if-not-is-digit.ensures) (le-leb _ _ c.if-value-most.false))
+      sym (spelled_more c.args.most c.loop-b.value (drop i l) _ _ (from_index l i c.loop-b-test.true) (sym c.if-not-is_digit.ensures) (le-leb _ _ c.if-value-most.false))
           ∙ c.loop-b.invariant.0,
       c.if-value-most.false,
     )

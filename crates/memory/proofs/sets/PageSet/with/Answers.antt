@@ -5,4 +5,4 @@ use Rattle.memory.proofs.sets.PageSet.with.Goals as goal
 
 pub returns : goal.returns
 returns c p h =
-    ap (λ m. in_set m p) c.mask-with.ensures ∙ with_one c.args.self.mask p c.args.page.number c.args.page.small
+    ap (λ m. in_set m p) c.mask_with.ensures ∙ with_one c.args.self.mask p c.args.page.number c.args.page.small
