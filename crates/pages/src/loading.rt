@@ -49,7 +49,7 @@ fn judge<'x, M: Memory>(
     at: u16,
     bytes: &[u8],
 ) -> Result<(), Refusal>
-    ensures { result ≡ judge_load at bytes.now (shown table.now (mem memory.now)) }
+    ensures { result ≡ judge_load at bytes.now (shown table.now (M.mem memory.now)) }
 {
     let from = at as u32;
     if bytes.len() > 65536 - at as usize {
@@ -62,8 +62,8 @@ fn judge<'x, M: Memory>(
 
 // Puts the bytes at a job's addresses, each of which takes writes.
 fn lay<M: Memory>(table: Table, memory: &mut M, at: u16, bytes: &[u8])
-    requires { judge_load at bytes.now (shown table.entries (mem memory.old)) ≡ IsOk tt }
-    ensures { mem memory.new ≡ back table.entries (laid at bytes.now (bytes_of (shown table.entries (mem memory.old)))) (mem memory.old) }
+    requires { judge_load at bytes.now (shown table.entries (M.mem memory.old)) ≡ IsOk tt }
+    ensures { M.mem memory.new ≡ back table.entries (laid at bytes.now (bytes_of (shown table.entries (M.mem memory.old)))) (M.mem memory.old) }
 {
     let mut a = at;
     for b in bytes {
@@ -75,8 +75,8 @@ fn lay<M: Memory>(table: Table, memory: &mut M, at: u16, bytes: &[u8])
 
 // Puts bytes from an address on, or refuses and changes nothing.
 pub fn load<M: Memory>(table: Table, memory: &mut M, at: u16, bytes: &[u8]) -> Result<(), Refusal>
-    ensures answer { result ≡ judge_load at bytes.now (shown table.entries (mem memory.old)) }
-    ensures after { mem memory.new ≡ loaded_mem table.entries at bytes.now (mem memory.old) }
+    ensures answer { result ≡ judge_load at bytes.now (shown table.entries (M.mem memory.old)) }
+    ensures after { M.mem memory.new ≡ loaded_mem table.entries at bytes.now (M.mem memory.old) }
 {
     judge(&table.entries, memory, at, bytes)?;
     lay(table, memory, at, bytes);

@@ -17,7 +17,7 @@ fn judge<'x, M: Memory>(
     at: u16,
     count: usize,
 ) -> Result<(), Refusal>
-    ensures { result ≡ judge_look at count (shown table.now (mem memory.now)) }
+    ensures { result ≡ judge_look at count (shown table.now (M.mem memory.now)) }
 {
     let from = at as u32;
     if count > 65536 - at as usize {
@@ -28,7 +28,7 @@ fn judge<'x, M: Memory>(
 
 // What the job sees at an address: 0 without access.
 fn byte_at<M: Memory>(table: &[u8; 15], memory: &M, at: u16) -> u8
-    ensures { result ≡ bytes_of (shown table.now (mem memory.now)) at }
+    ensures { result ≡ bytes_of (shown table.now (M.mem memory.now)) at }
 {
     let entry = entry_of(table, at as u32 / 4096);
     if entry.access() {
@@ -41,7 +41,7 @@ fn byte_at<M: Memory>(table: &[u8; 15], memory: &M, at: u16) -> u8
 // Fills the buffer with the bytes from an address on.
 fn show<M: Memory>(table: &[u8; 15], memory: &M, at: u16, out: &mut [u8])
     requires { at + length out.old ≤ 65536 }
-    ensures { out.new ≡ seen (length out.old) at (shown table.now (mem memory.now)) }
+    ensures { out.new ≡ seen (length out.old) at (shown table.now (M.mem memory.now)) }
 {
     let mut a = at;
     for x in out.iter_mut() {
@@ -52,8 +52,8 @@ fn show<M: Memory>(table: &[u8; 15], memory: &M, at: u16, out: &mut [u8])
 
 // Fills the whole buffer with the bytes from an address on, or refuses and leaves it untouched.
 pub fn look<M: Memory>(table: &[u8; 15], memory: &M, at: u16, out: &mut [u8]) -> Result<(), Refusal>
-    ensures answer { result ≡ judge_look at (length out.old) (shown table.now (mem memory.now)) }
-    ensures after { out.new ≡ unless_refused result out.old (seen (length out.old) at (shown table.now (mem memory.now))) }
+    ensures answer { result ≡ judge_look at (length out.old) (shown table.now (M.mem memory.now)) }
+    ensures after { out.new ≡ unless_refused result out.old (seen (length out.old) at (shown table.now (M.mem memory.now))) }
 {
     judge(table, memory, at, out.len())?;
     show(table, memory, at, out);

@@ -91,7 +91,7 @@ fn shift(cpu: &mut Processor, s: Shift, r: Register)
 
 // The operand of an operation.
 fn source_in<S: Space>(space: &S, bank: &Bank, source: Source, operand: u16) -> Result<u8, Fault>
-    ensures { result ≡ source_in source (cells space.now) bank.now operand }
+    ensures { result ≡ source_in source (S.cells space.now) bank.now operand }
 {
     match source {
         Source::Register(r) => Ok(bank.get(r)),
@@ -132,8 +132,8 @@ fn pop_into(cpu: &mut Processor, pair: Pair)
 
 // BT, BTR and BCV. The bank stands as after the elements done, whether all were or not.
 fn move_block<S: Space>(cpu: &mut Processor, space: &mut S, kind: Block) -> Result<Carried, Fault>
-    ensures all { effect result cpu.new (cells space.new) ≡ moved_by kind cpu.old (cells space.old) }
-    ensures kept { frame space.new ≡ frame space.old }
+    ensures all { effect result cpu.new (S.cells space.new) ≡ moved_by kind cpu.old (S.cells space.old) }
+    ensures kept { S.frame space.new ≡ S.frame space.old }
 {
     let mut bank = cpu.bank();
     let unmarked = bank.b == 0;
@@ -157,8 +157,8 @@ fn move_block<S: Space>(cpu: &mut Processor, space: &mut S, kind: Block) -> Resu
 
 // BFAC and BFSB.
 fn work_field<S: Space>(cpu: &mut Processor, space: &mut S, op: Operation) -> Result<Carried, Fault>
-    ensures all { effect result cpu.new (cells space.new) ≡ field_by op cpu.old (cells space.old) }
-    ensures kept { frame space.new ≡ frame space.old }
+    ensures all { effect result cpu.new (S.cells space.new) ≡ field_by op cpu.old (S.cells space.old) }
+    ensures kept { S.frame space.new ≡ S.frame space.old }
 {
     let mut bank = cpu.bank();
     let width = width_of(bank.c);
@@ -187,8 +187,8 @@ pub(crate) fn execute<S: Space>(
     i: Instruction,
     operand: u16,
 ) -> Result<Carried, Fault>
-    ensures all { effect result cpu.new (cells space.new) ≡ effect_of i operand cpu.old (cells space.old) }
-    ensures kept { frame space.new ≡ frame space.old }
+    ensures all { effect result cpu.new (S.cells space.new) ≡ effect_of i operand cpu.old (S.cells space.old) }
+    ensures kept { S.frame space.new ≡ S.frame space.old }
 {
     let bank = cpu.bank();
     match i {

@@ -23,7 +23,7 @@ pub struct Operand {
 
 // The op code at an address, after a selecting byte or not.
 pub(crate) fn fetch<S: Space>(space: &S, at: u16) -> Result<Fetched, Fault>
-    ensures { result ≡ fetch_of (cells space.now) at }
+    ensures { result ≡ fetch_of (S.cells space.now) at }
 {
     let first = space.read(at)?;
     let next = at.wrapping_add(1);
@@ -44,7 +44,7 @@ pub(crate) fn fetch<S: Space>(space: &S, at: u16) -> Result<Fetched, Fault>
 }
 
 fn read_byte<S: Space>(space: &S, at: u16) -> Result<Operand, Fault>
-    ensures { result ≡ byte_at (cells space.now) at }
+    ensures { result ≡ byte_at (S.cells space.now) at }
 {
     let value = space.read(at)? as u16;
     Ok(Operand {
@@ -55,7 +55,7 @@ fn read_byte<S: Space>(space: &S, at: u16) -> Result<Operand, Fault>
 
 // The low byte comes first.
 fn read_address<S: Space>(space: &S, at: u16) -> Result<Operand, Fault>
-    ensures { result ≡ address_at (cells space.now) at }
+    ensures { result ≡ address_at (S.cells space.now) at }
 {
     let low = space.read(at)?;
     let next = at.wrapping_add(1);
@@ -68,7 +68,7 @@ fn read_address<S: Space>(space: &S, at: u16) -> Result<Operand, Fault>
 
 // The bytes of an instruction after its op code.
 pub(crate) fn fetch_operand<S: Space>(space: &S, i: Instruction, at: u16) -> Result<Operand, Fault>
-    ensures { result ≡ operand_of i (cells space.now) at }
+    ensures { result ≡ operand_of i (S.cells space.now) at }
 {
     match i {
         Instruction::LoadImmediate(_) => read_byte(space, at),

@@ -1,5 +1,6 @@
 // The processor: one step over any space.
 #![tactic(auto)]
+
 ghost use Rattle.std.specs.Prelude.{◌≡◌};
 ghost use Rattle.processor.specs.Steps.{stepped, step_of};
 
@@ -22,8 +23,8 @@ pub struct Done {
 
 // One instruction with its selecting byte, if any. A fault leaves P at its first byte, and counts nothing.
 pub fn step<S: Space>(cpu: &mut Processor, space: &mut S) -> Result<Done, Fault>
-    ensures all { stepped result cpu.new (cells space.new) ≡ step_of cpu.old (cells space.old) }
-    ensures kept { frame space.new ≡ frame space.old }
+    ensures all { stepped result cpu.new (S.cells space.new) ≡ step_of cpu.old (S.cells space.old) }
+    ensures kept { S.frame space.new ≡ S.frame space.old }
 {
     let at = cpu.p;
     let fetched = fetch(space, at)?;

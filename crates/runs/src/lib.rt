@@ -1,5 +1,6 @@
 // Runs: step after step, up to a limit or a stop.
 #![tactic(auto)]
+
 ghost use Rattle.std.specs.Prelude.{◌≡◌, ℕ, ◌*◌, ◌≤◌};
 ghost use Rattle.runs.specs.Runs.{ran, run_of, calls_in};
 ghost use Rattle.runs.specs.Laws.{RunLaws, StepLaws};
@@ -19,8 +20,8 @@ pub struct Ran {
 
 // Step after step; the time fits, since there are at most 65,535 of them.
 fn run_steps<S: Space>(cpu: &mut Processor, space: &mut S, limit: u16) -> Ran
-    ensures all { ran result cpu.new (cells space.new) ≡ run_of limit 0 0 cpu.old (cells space.old) }
-    ensures kept { frame space.new ≡ frame space.old }
+    ensures all { ran result cpu.new (S.cells space.new) ≡ run_of limit 0 0 cpu.old (S.cells space.old) }
+    ensures kept { S.frame space.new ≡ S.frame space.old }
     ensures bounded { result.time ≤ result.steps * 4294967295 }
 {
     let mut steps = 0;
@@ -54,11 +55,11 @@ fn run_steps<S: Space>(cpu: &mut Processor, space: &mut S, limit: u16) -> Ran
 
 // At most `limit` steps. One that traps counts and ends the run, and one that faults ends it and does not count.
 pub fn run<S: Space>(cpu: &mut Processor, space: &mut S, limit: u16) -> Ran
-    ensures all { ran result cpu.new (cells space.new) ≡ run_of limit 0 0 cpu.old (cells space.old) }
-    ensures kept { frame space.new ≡ frame space.old }
+    ensures all { ran result cpu.new (S.cells space.new) ≡ run_of limit 0 0 cpu.old (S.cells space.old) }
+    ensures kept { S.frame space.new ≡ S.frame space.old }
     ensures bounded { result.time ≤ result.steps * 4294967295 }
     ensures called { calls_in result.stop ≤ result.steps }
-    ensures laws { RunLaws limit cpu.old (cells space.old) (ran result cpu.new (cells space.new)) }
+    ensures laws { RunLaws limit cpu.old (S.cells space.old) (ran result cpu.new (S.cells space.new)) }
     ensures each { StepLaws }
 {
     run_steps(cpu, space, limit)

@@ -1,5 +1,6 @@
 // How long an instruction takes, apart from what it does.
 #![tactic(auto)]
+
 ghost use Rattle.std.specs.Prelude.{◌≡◌, ℕ, ◌<◌, ◌≤◌};
 ghost use Rattle.times.specs.Times.{operate_time_of, block_time_of, time_of};
 

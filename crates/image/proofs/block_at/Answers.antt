@@ -6,8 +6,8 @@ use Rattle.image.proofs.block_at.Goals as goal
 pub returns-then-offset-file : goal.returns-then-offset-file
 returns-then-offset-file c = ends c.args.file.now c.args.offset (search rules)
 
-pub returns-in-default : goal.returns-in-default
-returns-in-default c = ends c.args.file.now c.args.offset (search rules)
+pub returns-in_default : goal.returns-in_default
+returns-in_default c = ends c.args.file.now c.args.offset (search rules)
 
 pub returns-then-size-rest : goal.returns-then-size-rest
 returns-then-size-rest c =

@@ -6,12 +6,12 @@ use Rattle.runs.proofs.run.Goals as goal
 pub returns : goal.returns
 returns g c =
     let s = g.S.Space.cells c.args.space.now in
-    let o = ran c.run-steps.result c.run-steps.new.cpu (g.S.Space.cells c.run-steps.new.space) in
+    let o = ran c.run_steps.result c.run_steps.new.cpu (g.S.Space.cells c.run_steps.new.space) in
     record {
-      all = c.run-steps.ensures.all;
-      kept = c.run-steps.ensures.kept;
-      bounded = c.run-steps.ensures.bounded;
-      called = run_calls c.args.limit c.args.cpu.now s o c.run-steps.ensures.all;
-      laws = run_laws c.args.limit c.args.cpu.now s o c.run-steps.ensures.all;
+      all = c.run_steps.ensures.all;
+      kept = c.run_steps.ensures.kept;
+      bounded = c.run_steps.ensures.bounded;
+      called = run_calls c.args.limit c.args.cpu.now s o c.run_steps.ensures.all;
+      laws = run_laws c.args.limit c.args.cpu.now s o c.run_steps.ensures.all;
       each = step_laws;
     }

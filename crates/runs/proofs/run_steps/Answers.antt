@@ -31,7 +31,7 @@ returns-in-Some g c =
 pub loop-steps-preserved : goal.loop-steps-preserved
 loop-steps-preserved g c = (
   ap (λ x. on_trap x (c.loop-steps.steps + 1) (c.loop-steps.time + c.in-Ok.done.time) (run_of (c.args.limit - (c.loop-steps.steps + 1)))
-      c.step.new.cpu (g.S.Space.cells c.step.new.space)) (sym c.in-default.is)
+      c.step.new.cpu (g.S.Space.cells c.step.new.space)) (sym c.in_default.is)
       ∙ turn c.args.limit c.loop-steps.steps c.loop-steps.time c.loop-steps.cpu (g.S.Space.cells c.loop-steps.space)
       (stepped (Ok c.in-Ok.done) c.step.new.cpu (g.S.Space.cells c.step.new.space)) (omega arith) c.in-Ok.ensures.all
       ∙ c.loop-steps.invariant.0,

@@ -3,11 +3,11 @@ use Rattle.block.specs.Transfers.{more_of}
 use Rattle.block.proofs.Turns.{stopped, matched, unmatched, same_c}
 use Rattle.block.proofs.transfers.run_block.Goals as goal
 
-pub returns-in-err-sum : goal.returns-in-err-sum
-returns-in-err-sum g c =
+pub returns-in_err-sum : goal.returns-in_err-sum
+returns-in_err-sum g c =
     let t =
     stopped c.args.kind c.loop-sum.bank (g.S.Space.cells c.loop-sum.space) c.loop-sum.elements c.element.new.bank
-    (g.S.Space.cells c.element.new.space) (more_of c.loop-sum.bank) c.in-err-sum.field-0.0 c.in-err-sum.ensures.all
+    (g.S.Space.cells c.element.new.space) (more_of c.loop-sum.bank) c.in_err-sum.field-0.0 c.in_err-sum.ensures.all
     in
     search rules
 

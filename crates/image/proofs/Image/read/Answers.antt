@@ -12,6 +12,6 @@ returns c =
     record {
       answer =
           ap₂ (λ x y. Ok (record { table = x; start = y; blocks = blocks_from file 22 })) c.copy_from_slice.ensures.after c.from_be_bytes-start.ensures
-          ∙ sym (accepted file c.if-file-gt16384.false (sym c.begins_image.ensures ∙ c.if-not-begins-image.false) c.if-file-lt22.false whole);
+          ∙ sym (accepted file c.if-file-gt16384.false (sym c.begins_image.ensures ∙ c.if-not-begins_image.false) c.if-file-lt22.false whole);
       tiled = tiles (length file) file 22 end;
     }

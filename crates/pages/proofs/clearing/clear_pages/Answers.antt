@@ -5,7 +5,7 @@ use Rattle.table.specs.Tables.{access_in}
 use Rattle.pages.specs.Held.{zeroed}
 use Rattle.pages.proofs.Clears.{with_bytes, zeroed_none, zeroed_back, turn_clears, turn_leaves}
 use Rattle.pages.proofs.clearing.clear_pages.Goals as goal
-use Rattle.pages.proofs.clearing.clear_pages.Goals.{then-access+then-takes-writes, else-access, else-access-via-then-access+else-takes-writes, else-access-via-else-access}
+use Rattle.pages.proofs.clearing.clear_pages.Goals.{then-access+then-takes_writes, else-access, else-access-via-then-access+else-takes_writes, else-access-via-else-access}
 
 pub loop-s-init : goal.loop-s-init
 loop-s-init g c =
@@ -20,14 +20,14 @@ loop-s-preserved g c =
     let p = c.page-page.result.number in
     let leaves = turn_leaves c.loop-s.s e p c.args.table.now m m₁ c.entry-of-entry.ensures c.page-page.ensures c.loop-s.invariant in
     elim c.if-access.branch [
-      | then-access+then-takes-writes w ↦
+      | then-access+then-takes_writes w ↦
           ap g.M.Memory.mem w.memory-is
           ∙ turn_clears c.loop-s.s e p c.args.table.now m m₁ c.entry-of-entry.ensures c.page-page.ensures c.loop-s.invariant
           (g.M.Memory.mem w.clear-page.new.memory) (sym c.access.ensures ∙ w.if-access.true) (sym w.takes-writes.ensures ∙ w.if-takes-writes.true) w.clear-page.ensures
       | else-access w ↦
           ap g.M.Memory.mem w.memory-is
           ∙ elim w.else-access.branch [
-            | else-access-via-then-access+else-takes-writes v ↦ leaves (and_right (access_in e) (m₁.takes p) (sym v.takes-writes.ensures ∙ v.if-takes-writes.false))
+            | else-access-via-then-access+else-takes_writes v ↦ leaves (and_right (access_in e) (m₁.takes p) (sym v.takes-writes.ensures ∙ v.if-takes-writes.false))
             | else-access-via-else-access v ↦ leaves (and_left (access_in e) (m₁.takes p) (sym c.access.ensures ∙ v.if-access.false))
           ]
     ]

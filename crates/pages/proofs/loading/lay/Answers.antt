@@ -15,8 +15,8 @@ place t bs at i a e p r within low ea ee ep er =
 pub loop-b-init : goal.loop-b-init
 loop-b-init g c = (lay_none _ _ _ _, omega arith)
 
-pub set-byte-requires : goal.set-byte-requires
-set-byte-requires g c =
+pub set_byte-requires : goal.set_byte-requires
+set_byte-requires g c =
     let m : Mem = g.M.Memory.mem c.args.memory.now in
     let t = c.args.table.entries in
     let fine : Accepted c.args.at c.args.bytes.now (shown t m) = accepted c.args.at c.args.bytes.now (shown t m) c.requires in

@@ -9,7 +9,7 @@ loop-x-preserved g c =
     let s : Cells = shown c.args.table.now (g.M.Memory.mem c.args.memory.now) in
     let low : c.loop-x.x-index < length c.loop-x.out = omega arith in
     let a : c.loop-x.a ≡ c.args.at + c.loop-x.x-index = omega arith in
-    (shows_more c.loop-x.x-index c.loop-x.out c.args.at c.byte-at.result s low (c.byte-at.ensures ∙ ap (bytes_of s) a) c.loop-x.invariant.0, omega arith)
+    (shows_more c.loop-x.x-index c.loop-x.out c.args.at c.byte_at.result s low (c.byte_at.ensures ∙ ap (bytes_of s) a) c.loop-x.invariant.0, omega arith)
 
 pub returns : goal.returns
 returns g c =

@@ -12,8 +12,8 @@ digits : (m : ℕ) (l : List ℕ) → eqb (length l) 0 ≡ false → spelled m 0
 digits m [] e = absurd (eqb-false 0 0 e refl)
 digits m (b ∷ bs) e = refl
 
-pub returns-then-is-empty : goal.returns-then-is-empty
-returns-then-is-empty c = no_digit c.args.most c.args.word.now (sym c.if-is-empty.ensures)
+pub returns-then-is_empty : goal.returns-then-is_empty
+returns-then-is_empty c = no_digit c.args.most c.args.word.now (sym c.if-is_empty.ensures)
 
 pub returns : goal.returns
 returns c = c.spell.ensures ∙ digits c.args.most c.args.word.now (sym c.if-is_empty.ensures)

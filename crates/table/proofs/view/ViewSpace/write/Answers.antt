@@ -8,7 +8,7 @@ pub returns-in-Ok : goal.returns-in-Ok
 returns-in-Ok g c =
     let t = c.args.self.now.table.entries in
     let apart = c.args.self.now.table.apart in
-    let l = c.args.self.now.memory.name in
+    let l = c.args.self.now.memory.ghost_name in
     let m : Mem = g.M.Memory.mem c.args.self.now.memory.now in
     let m' : Mem = g.M.Memory.mem c.write.new.self in
     let e = c.entry-entry.result.bits in
