@@ -2,7 +2,7 @@
 ghost use Rattle.std.specs.Prelude.{◌≡◌, ℕ, vec_len};
 ghost use Rattle.memory.specs.Memories.{Mem};
 ghost use Rattle.engine.specs.Answers.{done_answer};
-ghost use Rattle.model.specs.Calls.{asks, loads, runs as asksRun, looks, states};
+ghost use Rattle.model.specs.Calls.{asks, loads, runs as asks_run, looks, states};
 ghost use Rattle.model.specs.Worlds.{world_of, does};
 ghost use Rattle.console.specs.Answers.{says, settled_answer, Answered};
 
@@ -34,13 +34,13 @@ fn settled(res: Result<(), NotHeld>) -> Answer
 }
 
 fn load<M: Memory>(desk: &Desk, memory: &mut M, job: u8, at: u16, bytes: Vec<u8>) -> Answer
-    ensures { does (asks job (loads at bytes.items)) (world_of desk.now.engine.jobs (mem memory.old)) ≡ record { world = world_of desk.now.engine.jobs (mem memory.new); answer = says result } }
+    ensures { does (asks job (loads at bytes.items)) (world_of desk.now.engine.jobs (M.mem memory.old)) ≡ record { world = world_of desk.now.engine.jobs (M.mem memory.new); answer = says result } }
 {
     done(desk.load(memory, job, at, bytes.as_slice()))
 }
 
 fn run<M: Memory>(desk: &mut Desk, memory: &mut M, job: u8, limit: u16) -> Answer
-    ensures { does (asks job (asksRun limit)) (world_of desk.old.engine.jobs (mem memory.old)) ≡ record { world = world_of desk.new.engine.jobs (mem memory.new); answer = says result } }
+    ensures { does (asks job (asks_run limit)) (world_of desk.old.engine.jobs (M.mem memory.old)) ≡ record { world = world_of desk.new.engine.jobs (M.mem memory.new); answer = says result } }
 {
     match desk.run(memory, job, limit) {
         Ok(run) => Answer::Ran(Finished {
@@ -53,7 +53,7 @@ fn run<M: Memory>(desk: &mut Desk, memory: &mut M, job: u8, limit: u16) -> Answe
 }
 
 fn look<M: Memory>(desk: &Desk, memory: &M, job: u8, at: u16, buffer: Vec<u8>) -> Answer
-    ensures { does (asks job (looks at (vec_len buffer))) (world_of desk.now.engine.jobs (mem memory.now)) ≡ record { world = world_of desk.now.engine.jobs (mem memory.now); answer = says result } }
+    ensures { does (asks job (looks at (vec_len buffer))) (world_of desk.now.engine.jobs (M.mem memory.now)) ≡ record { world = world_of desk.now.engine.jobs (M.mem memory.now); answer = says result } }
 {
     let mut bytes = buffer;
     match desk.look(memory, job, at, &mut bytes) {
@@ -74,7 +74,7 @@ fn state(desk: &Desk, job: u8) -> Answer
 
 // Makes the call, and answers as the model says.
 pub fn answer_call<M: Memory>(desk: &mut Desk, memory: &mut M, call: Call) -> Answer
-    ensures { Answered call (world_of desk.old.engine.jobs (mem memory.old)) (world_of desk.new.engine.jobs (mem memory.new)) result }
+    ensures { Answered call (world_of desk.old.engine.jobs (M.mem memory.old)) (world_of desk.new.engine.jobs (M.mem memory.new)) result }
 {
     match call {
         Call::Open { job, start, table } => done(desk.open(memory, job, table, start)),

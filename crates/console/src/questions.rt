@@ -19,7 +19,7 @@ const BASIS: u64 = 14695981039346656037;
 const PRIME: u64 = 1099511628211;
 
 fn read<M: Memory>(memory: &M, at: u16) -> Answer
-    ensures { result ≡ Number ((mem memory.now).byte at) }
+    ensures { result ≡ Number ((M.mem memory.now).byte at) }
 {
     Answer::Number(memory.read(at) as u64)
 }
@@ -32,7 +32,7 @@ fn flag(value: bool) -> Answer
 
 // Whether a page takes writes: refused with 15 above page 15.
 fn takes<M: Memory>(memory: &M, page: u8) -> Answer
-    ensures { result ≡ takes_answer (mem memory.now) (sixteenth page) }
+    ensures { result ≡ takes_answer (M.mem memory.now) (sixteenth page) }
 {
     match Page::new(page) {
         Ok(page) => flag(memory.takes_writes(page)),
@@ -49,7 +49,7 @@ fn hash_step(hash: u64, byte: u8) -> u64
 
 // The hash of the 65,536 bytes that the memory shows.
 pub fn hash<M: Memory>(memory: &M) -> u64
-    ensures { result ≡ hash_of (mem memory.now).byte 65536 }
+    ensures { result ≡ hash_of (M.mem memory.now).byte 65536 }
 {
     let mut hash = BASIS;
     for at in 0..65536u32 {
@@ -88,7 +88,7 @@ fn image_of(file: &[u8], heap: Global) -> Answer {
 
 // Answers from what the memory shows.
 pub fn answer_question<M: Memory>(memory: &M, question: Question, heap: Global) -> Answer
-    ensures { Asked question (mem memory.now) result }
+    ensures { Asked question (M.mem memory.now) result }
 {
     match question {
         Question::Read { at } => read(memory, at),

@@ -1,7 +1,7 @@
 // The calls of a desk: those of its engine, with the receipts kept here. A host names a receipt by its job and number.
 ghost use Rattle.std.specs.Prelude.{◌≡◌, ℕ, ◌<◌, length, if◌then◌else◌, None, OnErr, nat_eq, slice_index_or};
 ghost use Rattle.memory.specs.Memories.{Mem};
-ghost use Rattle.model.specs.Calls.{opens, asks, loads, runs as asksRun, replies, abandons, looks, states, closes};
+ghost use Rattle.model.specs.Calls.{opens, asks, loads, runs as asks_run, replies, abandons, looks, states, closes};
 ghost use Rattle.model.specs.Acts.{judge_receipt};
 ghost use Rattle.model.specs.Worlds.{jobs_of, world_of, new_world, does};
 ghost use Rattle.engine.specs.Answers.{done_answer, look_answer, state_answer};
@@ -39,7 +39,7 @@ impl Desk {
         table: [u8; 15],
         start: u16,
     ) -> Result<(), Refusal>
-        ensures { does (opens job table start) (world_of self.old.engine.jobs (mem memory.old)) ≡ record { world = world_of self.new.engine.jobs (mem memory.new); answer = done_answer result } }
+        ensures { does (opens job table start) (world_of self.old.engine.jobs (M.mem memory.old)) ≡ record { world = world_of self.new.engine.jobs (M.mem memory.new); answer = done_answer result } }
     {
         self.engine.open(memory, job, table, start)
     }
@@ -52,14 +52,14 @@ impl Desk {
         at: u16,
         bytes: &[u8],
     ) -> Result<(), Refusal>
-        ensures { does (asks job (loads at bytes.now)) (world_of self.now.engine.jobs (mem memory.old)) ≡ record { world = world_of self.now.engine.jobs (mem memory.new); answer = done_answer result } }
+        ensures { does (asks job (loads at bytes.now)) (world_of self.now.engine.jobs (M.mem memory.old)) ≡ record { world = world_of self.now.engine.jobs (M.mem memory.new); answer = done_answer result } }
     {
         self.engine.load(memory, job, at, bytes)
     }
 
     // As the engine's, with the receipt kept: refused with 4, 6, 11, 12 and 13.
     pub fn run<M: Memory>(&mut self, memory: &mut M, job: u8, limit: u16) -> Result<Ran, Refusal>
-        ensures { does (asks job (asksRun limit)) (world_of self.old.engine.jobs (mem memory.old)) ≡ record { world = world_of self.new.engine.jobs (mem memory.new); answer = desk_answer result (owed_at self.new.held.receipts job) } }
+        ensures { does (asks job (asks_run limit)) (world_of self.old.engine.jobs (M.mem memory.old)) ≡ record { world = world_of self.new.engine.jobs (M.mem memory.new); answer = desk_answer result (owed_at self.new.held.receipts job) } }
     {
         let Outcome { run, receipt } = self.engine.run(memory, job, limit)?;
         match self.held.replace(job, receipt) {
@@ -92,7 +92,7 @@ impl Desk {
         at: u16,
         out: &mut [u8],
     ) -> Result<(), Refusal>
-        ensures world { does (asks job (looks at (length out.old))) (world_of self.now.engine.jobs (mem memory.now)) ≡ record { world = world_of self.now.engine.jobs (mem memory.now); answer = look_answer result out.new } }
+        ensures world { does (asks job (looks at (length out.old))) (world_of self.now.engine.jobs (M.mem memory.now)) ≡ record { world = world_of self.now.engine.jobs (M.mem memory.now); answer = look_answer result out.new } }
         ensures untouched { OnErr result (out.new ≡ out.old) }
     {
         self.engine.look(memory, job, at, out)

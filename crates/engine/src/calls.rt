@@ -3,7 +3,7 @@ ghost use Rattle.std.specs.Prelude.{◌≡◌, ℕ, ◌+◌, ◌*◌, ◌<◌, �
 ghost use Rattle.memory.specs.Memories.{Mem};
 ghost use Rattle.runs.specs.Runs.{calls_in};
 ghost use Rattle.model.specs.Jobs.{closed_job, ran_job, state_of};
-ghost use Rattle.model.specs.Calls.{opens, asks, loads, runs as asksRun, replies, abandons, looks, states, closes};
+ghost use Rattle.model.specs.Calls.{opens, asks, loads, runs as asks_run, replies, abandons, looks, states, closes};
 ghost use Rattle.model.specs.Acts.{owed_by};
 ghost use Rattle.model.specs.Worlds.{jobs_of, world_of, new_world, upd, twice, does};
 ghost use Rattle.engine.specs.Answers.{done_answer, owed_of, ran_answer, returned_answer, look_answer, state_answer};
@@ -125,7 +125,7 @@ impl Engine {
         table: [u8; 15],
         start: u16,
     ) -> Result<(), Refusal>
-        ensures { does (opens job table start) (world_of self.old.jobs (mem memory.old)) ≡ record { world = world_of self.new.jobs (mem memory.new); answer = done_answer result } }
+        ensures { does (opens job table start) (world_of self.old.jobs (M.mem memory.old)) ≡ record { world = world_of self.new.jobs (M.mem memory.new); answer = done_answer result } }
     {
         self.judge_open(memory, job, &table)?;
         clear_pages(&table, memory);
@@ -141,7 +141,7 @@ impl Engine {
         at: u16,
         bytes: &[u8],
     ) -> Result<(), Refusal>
-        ensures { does (asks job (loads at bytes.now)) (world_of self.now.jobs (mem memory.old)) ≡ record { world = world_of self.now.jobs (mem memory.new); answer = done_answer result } }
+        ensures { does (asks job (loads at bytes.now)) (world_of self.now.jobs (M.mem memory.old)) ≡ record { world = world_of self.now.jobs (M.mem memory.new); answer = done_answer result } }
     {
         let record = self.open_record(job)?;
         loading::load(self.table_of(job, &record), memory, at, bytes)
@@ -154,7 +154,7 @@ impl Engine {
         job: u8,
         limit: u16,
     ) -> Result<Outcome, Refusal>
-        ensures { does (asks job (asksRun limit)) (world_of self.old.jobs (mem memory.old)) ≡ record { world = world_of self.new.jobs (mem memory.new); answer = ran_answer result } }
+        ensures { does (asks job (asks_run limit)) (world_of self.old.jobs (M.mem memory.old)) ≡ record { world = world_of self.new.jobs (M.mem memory.new); answer = ran_answer result } }
     {
         let mut record = self.ready_record(job, limit)?;
         let table = self.table_of(job, &record);
@@ -217,7 +217,7 @@ impl Engine {
         at: u16,
         out: &mut [u8],
     ) -> Result<(), Refusal>
-        ensures world { does (asks job (looks at (length out.old))) (world_of self.now.jobs (mem memory.now)) ≡ record { world = world_of self.now.jobs (mem memory.now); answer = look_answer result out.new } }
+        ensures world { does (asks job (looks at (length out.old))) (world_of self.now.jobs (M.mem memory.now)) ≡ record { world = world_of self.now.jobs (M.mem memory.now); answer = look_answer result out.new } }
         ensures untouched { OnErr result (out.new ≡ out.old) }
     {
         let record = self.open_record(job)?;

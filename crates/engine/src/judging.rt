@@ -91,7 +91,7 @@ impl Engine {
         job: u8,
         table: &'x [u8; 15],
     ) -> Result<(), Refusal>
-        ensures { result ≡ judge_open job table.now (world_of self.now.jobs (mem memory.now)) }
+        ensures { result ≡ judge_open job table.now (world_of self.now.jobs (M.mem memory.now)) }
     {
         Ground::NoSuchJob.refuse_if(job > 7)?;
         Ground::AlreadyOpen.refuse_if(self.record(job).status.is_open())?;

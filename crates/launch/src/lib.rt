@@ -63,7 +63,7 @@ impl fmt::Display for Told {
 
 // Loads the blocks into job 0 in their order; the first refusal ends it.
 fn load_all<M: Memory>(engine: &Engine, memory: &mut M, blocks: Blocks) -> Result<(), Refusal>
-    ensures { loaded_by result (world_of engine.now.jobs (mem memory.new)) ≡ loads_all (left blocks.entry) (world_of engine.now.jobs (mem memory.old)) }
+    ensures { loaded_by result (world_of engine.now.jobs (M.mem memory.new)) ≡ loads_all (left blocks.entry) (world_of engine.now.jobs (M.mem memory.old)) }
 {
     let mut rest = blocks;
     while let Some(block) = rest.next() {
@@ -116,8 +116,8 @@ fn abandon_owed(engine: &mut Engine, receipt: Option<Receipt>)
 
 // The figure of an image, or the first refusal: of the file, of the opening, of a block, of the run.
 pub fn launch<M: Memory>(file: &[u8], memory: &mut M) -> Result<Figure, Refusal>
-    ensures answer { result ≡ (launch_of file.now (mem memory.old)).answer }
-    ensures after { mem memory.new ≡ (launch_of file.now (mem memory.old)).world.mem }
+    ensures answer { result ≡ (launch_of file.now (M.mem memory.old)).answer }
+    ensures after { M.mem memory.new ≡ (launch_of file.now (M.mem memory.old)).world.mem }
 {
     let image = Image::read(file)?;
     let mut engine = Engine::new();

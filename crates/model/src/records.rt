@@ -2,7 +2,7 @@
 ghost use Rattle.std.specs.Prelude.{◌≡◌};
 ghost use Rattle.stop.specs.Stops.{number_of};
 ghost use Rattle.runs.specs.Runs.{calls_in};
-ghost use Rattle.model.specs.Jobs.{closed_job, opened_job, replied_job, state_of, status_after, status_by_number, is_open as openStatus, is_waiting as waitingStatus, is_ended as endedStatus};
+ghost use Rattle.model.specs.Jobs.{closed_job, opened_job, replied_job, state_of, status_after, status_by_number, is_open as open_status, is_waiting as waiting_status, is_ended as ended_status};
 
 use super::job::{Job, Registers, State, Status};
 use registers::bank::Bank;
@@ -11,7 +11,7 @@ use stop::{Stop, Trap};
 
 impl Status {
     pub fn is_open(self) -> bool
-        ensures { result ≡ openStatus self }
+        ensures { result ≡ open_status self }
     {
         match self {
             Status::Closed => false,
@@ -20,7 +20,7 @@ impl Status {
     }
 
     pub fn is_waiting(self) -> bool
-        ensures { result ≡ waitingStatus self }
+        ensures { result ≡ waiting_status self }
     {
         match self {
             Status::Waiting => true,
@@ -29,7 +29,7 @@ impl Status {
     }
 
     pub fn is_ended(self) -> bool
-        ensures { result ≡ endedStatus self }
+        ensures { result ≡ ended_status self }
     {
         match self {
             Status::Ended => true,

@@ -15,8 +15,8 @@ pub fn run_job<M: Memory>(
     processor: &mut Processor,
     limit: u16,
 ) -> Ran
-    ensures all { ran result processor.new (cells_by table.entries (mem memory.new)) ≡ run_of limit 0 0 processor.old (cells_by table.entries (mem memory.old)) }
-    ensures kept { frame_by 0 table.entries (mem memory.new) ≡ frame_by 0 table.entries (mem memory.old) }
+    ensures all { ran result processor.new (cells_by table.entries (M.mem memory.new)) ≡ run_of limit 0 0 processor.old (cells_by table.entries (M.mem memory.old)) }
+    ensures kept { frame_by 0 table.entries (M.mem memory.new) ≡ frame_by 0 table.entries (M.mem memory.old) }
     ensures within { result.steps ≤ limit }
     ensures bounded { result.time ≤ result.steps * 4294967295 }
     ensures called { calls_in result.stop ≤ result.steps }

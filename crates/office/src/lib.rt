@@ -1,5 +1,6 @@
 // A pricing office: shipments, charges, and what it says to a shipper's program.
 #![tactic(auto)]
+
 pub mod account;
 pub mod bill;
 pub mod charge;

@@ -9,16 +9,16 @@ use table::entry::entry_of;
 
 // Puts a byte where the page takes writes.
 pub(crate) fn set_byte<M: Memory>(memory: &mut M, at: u16, b: u8)
-    requires { (Mem memory.old).takes (at / 4096) ≡ true }
-    ensures { Mem memory.new ≡ record { byte = put (Mem memory.old).byte at b; takes = (Mem memory.old).takes } }
+    requires { (M.mem memory.old).takes (at / 4096) ≡ true }
+    ensures { M.mem memory.new ≡ record { byte = put (M.mem memory.old).byte at b; takes = (M.mem memory.old).takes } }
 {
     let _ = memory.write(at, b);
 }
 
 // Puts 0 into each byte of a page that takes writes.
 fn clear_page<M: Memory>(memory: &mut M, page: Page)
-    requires { (Mem memory.old).takes page.number ≡ true }
-    ensures { Mem memory.new ≡ record { byte = zeroed_page page.number 4096 (Mem memory.old).byte; takes = (Mem memory.old).takes } }
+    requires { (M.mem memory.old).takes page.number ≡ true }
+    ensures { M.mem memory.new ≡ record { byte = zeroed_page page.number 4096 (M.mem memory.old).byte; takes = (M.mem memory.old).takes } }
 {
     for i in 0..4096u16 {
         set_byte(memory, page.address(i), 0);
@@ -27,7 +27,7 @@ fn clear_page<M: Memory>(memory: &mut M, page: Page)
 
 // Puts 0 into each byte of the pages that take writes and that the table gives access to.
 pub fn clear_pages<M: Memory>(table: &[u8; 15], memory: &mut M)
-    ensures { Mem memory.new ≡ back table.now (λ a. 0) (Mem memory.old) }
+    ensures { M.mem memory.new ≡ back table.now (λ a. 0) (M.mem memory.old) }
 {
     for s in 0..15u32 {
         let entry = entry_of(table, s);

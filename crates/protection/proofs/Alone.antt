@@ -1,6 +1,6 @@
 -- A job's answers are a function of its record, its space and the calls that name it.
 use Rattle.std.proofs.Common.{◌≡◌, ℕ, Bool, true, false, cond, not, ◌&&◌, eqb, List, [], ◌∷◌, map, Ok, Err, sym, refl, ap, ◌∙◌, subst, arith, eqb-true}
-use borrow.Author.Tests.{eqb-false, not_true}
+use borrow.Author.Tests.{eqb-false, not-true}
 use Rattle.refusal.specs.declared.Ground.TheVariants.{AlreadyOpen}
 use Rattle.refusal.specs.declared.Refusal.{Refusal}
 use Rattle.refusal.specs.Judging.{Judgement, when, also}
@@ -175,7 +175,7 @@ left_solo j (c ∷ cs) w I o q = go (eqb (names c) j) refl (left_solo j cs) q
     go true e rec p =
         let h : Alone j c (does c w) (solo c (w.jobs j) (space_at w j)) = own_here j w I o c e in
         let n : ends c (solo c (w.jobs j) (space_at w j)).answer ≡ false
-        = ap (ends c) (sym h.said) ∙ not_true (ends c (does c w).answer) (and_left (not (ends c (does c w).answer)) (endless (said_to j cs (does c w).world)) p) in
+        = ap (ends c) (sym h.said) ∙ not-true (ends c (does c w).answer) (and_left (not (ends c (does c w).answer)) (endless (said_to j cs (does c w).world)) p) in
         let g = h.goes n in
         rec (does c w).world (inv_does c w I) g.2 (and_right (not (ends c (does c w).answer)) (endless (said_to j cs (does c w).world)) p)
         ∙ ap (λ b. solo_left (calls_to j cs) b (space_at (does c w).world j)) g.0

@@ -11,4 +11,4 @@ unreachable-requires c = state_kept (world_of c.args.engine.now.jobs no_mem) _ c
 pub returns : goal.returns
 returns c =
     let told = state_is (world_of c.args.engine.now.jobs no_mem) _ c.state.new.out c.requires (c.in-Ok.ensures.world no_mem) in
-    c.a-of.ensures ∙ ap (λ (s : State). (bank_of s.processor).a) told
+    c.a_of.ensures ∙ ap (λ (s : State). (bank_of s.processor).a) told

@@ -10,19 +10,19 @@ use Rattle.launch.proofs.load_all.Goals as goal
 pub loop-block-preserved : goal.loop-block-preserved
 loop-block-preserved g c =
     load_one (left c.loop-block.rest) (world_of c.args.engine.now.jobs (g.M.Memory.mem c.loop-block.memory)) (block_of c.in-Some.block) (left c.next.new.self)
-    (world_of c.args.engine.now.jobs (g.M.Memory.mem c.load.new.memory)) c.in-Some.ensures c.in-ok-load.ensures
+    (world_of c.args.engine.now.jobs (g.M.Memory.mem c.load.new.memory)) c.in-Some.ensures c.in_ok-load.ensures
     ∙ c.loop-block.invariant
 
-pub returns-in-err-load : goal.returns-in-err-load
-returns-in-err-load g c =
+pub returns-in_err-load : goal.returns-in_err-load
+returns-in_err-load g c =
     let v : World = world_of c.args.engine.now.jobs (g.M.Memory.mem c.load.new.memory) in
     let p = err_from_is_err_and c.from-residual.result c.from-residual.ensures.1 in
     ap (λ (r : Result (Unit {0}) Refusal). loaded_by r v) (p.1 ∙ ap (λ (e : Refusal). Err e) p.2)
     ∙ load_stop (left c.loop-block.rest) (world_of c.args.engine.now.jobs (g.M.Memory.mem c.loop-block.memory)) (block_of c.in-Some.block) (left c.next.new.self) v
-    c.in-err-load.field-0.0 c.in-Some.ensures c.in-err-load.ensures
+    c.in_err-load.field-0.0 c.in-Some.ensures c.in_err-load.ensures
     ∙ c.loop-block.invariant
 
 pub returns : goal.returns
 returns g c =
-    load_end (left c.loop-block.rest) (world_of c.args.engine.now.jobs (g.M.Memory.mem c.loop-block.memory)) c.in-default.ensures.0
+    load_end (left c.loop-block.rest) (world_of c.args.engine.now.jobs (g.M.Memory.mem c.loop-block.memory)) c.in_default.ensures.0
     ∙ c.loop-block.invariant

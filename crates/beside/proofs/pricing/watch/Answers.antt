@@ -3,8 +3,8 @@ use Rattle.engine.specs.Answers.{owed_of}
 use Rattle.launch.proofs.Ran.{ran_says, ran_acceptable_at}
 use Rattle.beside.proofs.pricing.watch.Goals as goal
 
-pub abandon-owed-requires : goal.abandon-owed-requires
-abandon-owed-requires g c =
+pub abandon_owed-requires : goal.abandon_owed-requires
+abandon_owed-requires g c =
     let t : World = world_of c.run.new.self.jobs (g.M.Memory.mem c.run.new.memory) in
-    ran_acceptable_at c.args.job t c.in-ok-run.field-0.run (owed_of c.in-ok-run.field-0.receipt)
-    (ran_says c.args.job c.args.limit (world_of c.args.engine.now.jobs (g.M.Memory.mem c.args.memory.now)) t _ _ c.in-ok-run.ensures)
+    ran_acceptable_at c.args.job t c.in_ok-run.field-0.run (owed_of c.in_ok-run.field-0.receipt)
+    (ran_says c.args.job c.args.limit (world_of c.args.engine.now.jobs (g.M.Memory.mem c.args.memory.now)) t _ _ c.in_ok-run.ensures)

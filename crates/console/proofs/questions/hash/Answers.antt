@@ -15,6 +15,6 @@ loop-at-init g c = none (g.M.Memory.mem c.args.memory.now).byte
 
 pub loop-at-preserved : goal.loop-at-preserved
 loop-at-preserved g c =
-    c.hash-step-hash.ensures
+    c.hash_step-hash.ensures
     ∙ ap₂ hash_step c.loop-at.invariant c.read.ensures
     ∙ one_more (g.M.Memory.mem c.args.memory.now).byte c.loop-at.at

@@ -17,7 +17,7 @@ loop-number-preserved c =
     let n = get_or l i 0 in
     let m = c.loop-number.pages.mask in
     let here = from_index l i c.loop-number-test.true in
-    let made = page_made n c.in-ok-new.field-0.number c.in-ok-new.ensures in
+    let made = page_made n c.in_ok-new.field-0.number c.in_ok-new.ensures in
     let inv = c.loop-number.invariant in (
       sym (all_more (drop i l) n (drop (i + 1) l) here ∙ ap (λ z. z && all_pages (drop (i + 1) l)) made.0) ∙ inv.0,
       λ p h.
@@ -27,13 +27,13 @@ loop-number-preserved c =
           ∙ inv.1 p h,
     )
 
-pub returns-in-err-new : goal.returns-in-err-new
-returns-in-err-new c =
+pub returns-in_err-new : goal.returns-in_err-new
+returns-in_err-new c =
     let l = c.args.numbers.now in
     let i = c.loop-number.number-index in
     let n = get_or l i 0 in
     let here = from_index l i c.loop-number-test.true in
-    let none = page_refused n c.in-err-new.field-0.0 c.in-err-new.ensures in
+    let none = page_refused n c.in_err-new.field-0.0 c.in_err-new.ensures in
     let p = err_from_is_err_and c.from-residual.result c.from-residual.ensures.1 in
     subst (λ (r : Result PageSet Refusal). Gathered l r) (sym (p.1 ∙ ap (λ (e : Refusal). Err e) p.2)) (
       sym c.loop-number.invariant.0 ∙ all_more (drop i l) n (drop (i + 1) l) here ∙ ap (λ z. z && all_pages (drop (i + 1) l)) none.0,

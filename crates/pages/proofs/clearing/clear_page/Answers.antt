@@ -15,7 +15,7 @@ loop-i-preserved g c =
     let p = c.args.page.number in
     let i = c.loop-i.i in
     let e : c.address.result ≡ p * 4096 + i = c.address.ensures ∙ omega arith in
-    c.set-byte.ensures
+    c.set_byte.ensures
     ∙ ap (λ (n : Mem). with_bytes n (put n.byte c.address.result 0)) c.loop-i.invariant
     ∙ ap (λ a. with_bytes m (put (zeroed_page p i m.byte) a 0)) e
     ∙ ap (with_bytes m) (page_more p i m.byte (omega arith))

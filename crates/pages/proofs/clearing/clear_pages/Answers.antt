@@ -16,18 +16,18 @@ pub loop-s-preserved : goal.loop-s-preserved
 loop-s-preserved g c =
     let m : Mem = g.M.Memory.mem c.args.memory.now in
     let m₁ : Mem = g.M.Memory.mem c.loop-s.memory in
-    let e = c.entry-of-entry.result.bits in
+    let e = c.entry_of-entry.result.bits in
     let p = c.page-page.result.number in
-    let leaves = turn_leaves c.loop-s.s e p c.args.table.now m m₁ c.entry-of-entry.ensures c.page-page.ensures c.loop-s.invariant in
+    let leaves = turn_leaves c.loop-s.s e p c.args.table.now m m₁ c.entry_of-entry.ensures c.page-page.ensures c.loop-s.invariant in
     elim c.if-access.branch [
       | then-access+then-takes_writes w ↦
           ap g.M.Memory.mem w.memory-is
-          ∙ turn_clears c.loop-s.s e p c.args.table.now m m₁ c.entry-of-entry.ensures c.page-page.ensures c.loop-s.invariant
-          (g.M.Memory.mem w.clear-page.new.memory) (sym c.access.ensures ∙ w.if-access.true) (sym w.takes-writes.ensures ∙ w.if-takes-writes.true) w.clear-page.ensures
+          ∙ turn_clears c.loop-s.s e p c.args.table.now m m₁ c.entry_of-entry.ensures c.page-page.ensures c.loop-s.invariant
+          (g.M.Memory.mem w.clear_page.new.memory) (sym c.access.ensures ∙ w.if-access.true) (sym w.takes_writes.ensures ∙ w.if-takes_writes.true) w.clear_page.ensures
       | else-access w ↦
           ap g.M.Memory.mem w.memory-is
           ∙ elim w.else-access.branch [
-            | else-access-via-then-access+else-takes_writes v ↦ leaves (and_right (access_in e) (m₁.takes p) (sym v.takes-writes.ensures ∙ v.if-takes-writes.false))
+            | else-access-via-then-access+else-takes_writes v ↦ leaves (and_right (access_in e) (m₁.takes p) (sym v.takes_writes.ensures ∙ v.if-takes_writes.false))
             | else-access-via-else-access v ↦ leaves (and_left (access_in e) (m₁.takes p) (sym c.access.ensures ∙ v.if-access.false))
           ]
     ]

@@ -21,8 +21,8 @@ set_byte-requires g c =
     let t = c.args.table.entries in
     let fine : Accepted c.args.at c.args.bytes.now (shown t m) = accepted c.args.at c.args.bytes.now (shown t m) c.requires in
     lay_takes t c.args.table.apart c.args.at c.args.bytes.now m fine c.loop-b.b-index _ c.loop-b.invariant.0 c.address.result c.loop-b-test.true
-    (place t c.args.bytes.now c.args.at c.loop-b.b-index c.loop-b.a c.entry-of-entry.result.bits c.page.result.number c.address.result
-    fine.within c.loop-b-test.true c.loop-b.invariant.1 c.entry-of-entry.ensures c.page.ensures c.address.ensures)
+    (place t c.args.bytes.now c.args.at c.loop-b.b-index c.loop-b.a c.entry_of-entry.result.bits c.page.result.number c.address.result
+    fine.within c.loop-b-test.true c.loop-b.invariant.1 c.entry_of-entry.ensures c.page.ensures c.address.ensures)
 
 pub loop-b-preserved : goal.loop-b-preserved
 loop-b-preserved g c =
@@ -30,10 +30,10 @@ loop-b-preserved g c =
     let t = c.args.table.entries in
     let fine : Accepted c.args.at c.args.bytes.now (shown t m) = accepted c.args.at c.args.bytes.now (shown t m) c.requires in (
       lay_more t c.args.table.apart c.args.at c.args.bytes.now m fine c.loop-b.b-index (g.M.Memory.mem c.loop-b.memory) c.loop-b.invariant.0 c.address.result
-          (g.M.Memory.mem c.set-byte.new.memory) c.loop-b-test.true
-          (place t c.args.bytes.now c.args.at c.loop-b.b-index c.loop-b.a c.entry-of-entry.result.bits c.page.result.number c.address.result
-          fine.within c.loop-b-test.true c.loop-b.invariant.1 c.entry-of-entry.ensures c.page.ensures c.address.ensures)
-          c.set-byte.ensures,
+          (g.M.Memory.mem c.set_byte.new.memory) c.loop-b-test.true
+          (place t c.args.bytes.now c.args.at c.loop-b.b-index c.loop-b.a c.entry_of-entry.result.bits c.page.result.number c.address.result
+          fine.within c.loop-b-test.true c.loop-b.invariant.1 c.entry_of-entry.ensures c.page.ensures c.address.ensures)
+          c.set_byte.ensures,
       omega arith,
     )
 

@@ -11,16 +11,16 @@ use Rattle.desk.proofs.desk.Desk.abandon.Goals as goal
 
 pub invariant-of-self : goal.invariant-of-self
 invariant-of-self c = (
-  λ j. subst (λ (l : List (Option Receipt)). owed_to j (jobs_of c.args.self.now.engine.jobs j) (get_or l j None) ≡ true) (sym c.in-default.ensures.after) (c.args.self.now.kept j),
+  λ j. subst (λ (l : List (Option Receipt)). owed_to j (jobs_of c.args.self.now.engine.jobs j) (get_or l j None) ≡ true) (sym c.in_default.ensures.after) (c.args.self.now.kept j),
   tt,
 )
 
-pub returns-in-default : goal.returns-in-default
-returns-in-default c =
+pub returns-in_default : goal.returns-in_default
+returns-in_default c =
     let self = c.args.self.now in
     let j = c.args.job in
     let n = c.args.number in
-    let q = refused_receipt j n (jobs_of self.engine.jobs j) (get_or self.held.receipts j None) (self.kept j) c.in-default.ensures.value in
+    let q = refused_receipt j n (jobs_of self.engine.jobs j) (get_or self.held.receipts j None) (self.kept j) c.in_default.ensures.value in
     record {
       world = λ m. sym (ap (λ (d : Done). d.world) (refuses j (abandons n) (world_of self.engine.jobs m) q.0 q.1));
       answer = sym (ap held_answer q.1);

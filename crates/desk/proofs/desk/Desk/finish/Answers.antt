@@ -9,8 +9,8 @@ use Rattle.desk.proofs.desk.Desk.finish.Goals as goal
 at_eight : (f g : ℕ → Job) (n : ℕ) → 8 ≤ n → n ≤ 8 → ((k : ℕ) → g k ≡ cond (ltb k n) (released (f k)) (f k)) → (k : ℕ) → g k ≡ cond (ltb k 8) (released (f k)) (f k)
 at_eight f g n low high h k = let same : n ≡ 8 = omega arith in subst (λ i. g k ≡ cond (ltb k i) (released (f k)) (f k)) same (h k)
 
-pub let-go-requires : goal.let-go-requires
-let-go-requires c =
+pub let_go-requires : goal.let_go-requires
+let_go-requires c =
     let desk = c.loop-job.desk in
     let self = c.args.self in
     all_gone (jobs_of self.engine.jobs) (jobs_of desk.engine.jobs) self.held.receipts desk.held.receipts self.kept desk.kept self.held.eight desk.held.eight

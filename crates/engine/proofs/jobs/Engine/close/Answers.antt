@@ -10,27 +10,27 @@ use Rattle.engine.specs.Answers.{done_answer}
 use Rattle.engine.proofs.Judged.{given, withheld, seated}
 use Rattle.engine.proofs.jobs.Engine.close.Goals as goal
 
-pub returns-in-err-idle-record : goal.returns-in-err-idle-record
-returns-in-err-idle-record c =
+pub returns-in_err-idle_record : goal.returns-in_err-idle_record
+returns-in_err-idle_record c =
     let j = c.args.job in
     let b = jobs_of c.args.self.now.jobs j in
     let p = err_from_is_err_and c.from-residual.result c.from-residual.ensures.1 in
     λ m.
     let w : World = world_of c.args.self.now.jobs m in
-    refuses j closes w c.in-err-idle-record.field-0.0 (withheld (judge_close j b) b _ c.in-err-idle-record.ensures)
+    refuses j closes w c.in_err-idle_record.field-0.0 (withheld (judge_close j b) b _ c.in_err-idle_record.ensures)
     ∙ ap {B = Done} (λ (r : Result (Unit {0}) Refusal). record { world = w; answer = done_answer r }) (sym (p.1 ∙ ap (λ (e : Refusal). Err e) p.2))
 
 pub vacate-requires : goal.vacate-requires
 vacate-requires c =
     let j = c.args.job in
     let b = jobs_of c.args.self.now.jobs j in
-    seated j _ (given (judge_close j b) b _ c.in-ok-idle-record.ensures).0
+    seated j _ (given (judge_close j b) b _ c.in_ok-idle_record.ensures).0
 
 pub returns : goal.returns
 returns c =
     let j = c.args.job in
     let b = jobs_of c.args.self.now.jobs j in
-    let took = given (judge_close j b) b _ c.in-ok-idle-record.ensures in
+    let took = given (judge_close j b) b _ c.in_ok-idle_record.ensures in
     λ m.
     let w : World = world_of c.args.self.now.jobs m in
     accepts j closes w took.0

@@ -11,14 +11,14 @@ use Rattle.engine.proofs.Judged.{given, withheld, stopped}
 use Rattle.engine.proofs.Loaded.{load_settles}
 use Rattle.engine.proofs.jobs.Engine.load.Goals as goal
 
-pub returns-in-err-record : goal.returns-in-err-record
-returns-in-err-record g c =
+pub returns-in_err-record : goal.returns-in_err-record
+returns-in_err-record g c =
     let w : World = world_of c.args.self.now.jobs (g.M.Memory.mem c.args.memory.now) in
     let j = c.args.job in
     let b = w.jobs j in
     let p = err_from_is_err_and c.from-residual.result c.from-residual.ensures.1 in
-    refuses j (loads c.args.at c.args.bytes.now) w c.in-err-record.field-0.0
-    (stopped (no_such_job j) (not_open b) _ _ (withheld (judge_open_job j b) b _ c.in-err-record.ensures))
+    refuses j (loads c.args.at c.args.bytes.now) w c.in_err-record.field-0.0
+    (stopped (no_such_job j) (not_open b) _ _ (withheld (judge_open_job j b) b _ c.in_err-record.ensures))
     ∙ ap {B = Done} (λ (r : Result (Unit {0}) Refusal). record { world = w; answer = done_answer r }) (sym (p.1 ∙ ap (λ (e : Refusal). Err e) p.2))
 
 pub returns : goal.returns
@@ -26,6 +26,6 @@ returns g c =
     let w : World = world_of c.args.self.now.jobs (g.M.Memory.mem c.args.memory.now) in
     let j = c.args.job in
     let b = w.jobs j in
-    let took = given (judge_open_job j b) b c.in-ok-record.record c.in-ok-record.ensures in
+    let took = given (judge_open_job j b) b c.in_ok-record.record c.in_ok-record.ensures in
     load_settles j c.args.at c.args.bytes.now w (g.M.Memory.mem c.load.new.memory) c.load.result took.0
-    c.table-of.result.entries (c.table-of.ensures ∙ ap (λ (x : Job). x.table) took.1) c.load.ensures.answer c.load.ensures.after
+    c.table_of.result.entries (c.table_of.ensures ∙ ap (λ (x : Job). x.table) took.1) c.load.ensures.answer c.load.ensures.after

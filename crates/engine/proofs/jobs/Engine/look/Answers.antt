@@ -11,16 +11,16 @@ use Rattle.engine.proofs.Judged.{given, withheld, stopped}
 use Rattle.engine.proofs.Looked.{look_settles, look_leaves}
 use Rattle.engine.proofs.jobs.Engine.look.Goals as goal
 
-pub returns-in-err-record : goal.returns-in-err-record
-returns-in-err-record g c =
+pub returns-in_err-record : goal.returns-in_err-record
+returns-in_err-record g c =
     let w : World = world_of c.args.self.now.jobs (g.M.Memory.mem c.args.memory.now) in
     let j = c.args.job in
     let b = w.jobs j in
     let p = err_from_is_err_and c.from-residual.result c.from-residual.ensures.1 in
     record {
       world =
-          refuses j (looks c.args.at (length c.args.out.now)) w c.in-err-record.field-0.0
-          (stopped (no_such_job j) (not_open b) _ _ (withheld (judge_open_job j b) b _ c.in-err-record.ensures))
+          refuses j (looks c.args.at (length c.args.out.now)) w c.in_err-record.field-0.0
+          (stopped (no_such_job j) (not_open b) _ _ (withheld (judge_open_job j b) b _ c.in_err-record.ensures))
           ∙ ap {B = Done} (λ (r : Result (Unit {0}) Refusal). record { world = w; answer = look_answer r c.args.out.now }) (sym (p.1 ∙ ap (λ (e : Refusal). Err e) p.2));
       untouched = rw p.1 refl;
     }
@@ -30,10 +30,10 @@ returns g c =
     let w : World = world_of c.args.self.now.jobs (g.M.Memory.mem c.args.memory.now) in
     let j = c.args.job in
     let b = w.jobs j in
-    let took = given (judge_open_job j b) b c.in-ok-record.record c.in-ok-record.ensures in
+    let took = given (judge_open_job j b) b c.in_ok-record.record c.in_ok-record.ensures in
     record {
       world =
-          look_settles j c.args.at w c.args.out.now c.look.new.out took.0 c.in-ok-record.record.table c.look.result
+          look_settles j c.args.at w c.args.out.now c.look.new.out took.0 c.in_ok-record.record.table c.look.result
           (ap (λ (x : Job). x.table) took.1) c.look.ensures.answer c.look.ensures.after;
       untouched = look_leaves c.look.result c.args.out.now c.look.new.out _ c.look.ensures.after;
     }

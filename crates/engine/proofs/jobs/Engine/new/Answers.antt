@@ -6,11 +6,11 @@ use Rattle.protection.proofs.Whole.{protected}
 use Rattle.engine.proofs.jobs.Engine.new.Goals as goal
 
 pub returns : goal.returns
-returns c = record { world = λ m. ap (λ (js : List Job). world_of js m) c.closed-jobs.ensures; protected = protected }
+returns c = record { world = λ m. ap (λ (js : List Job). world_of js m) c.closed_jobs.ensures; protected = protected }
 
 pub invariant-of-result : goal.invariant-of-result
 invariant-of-result c =
-    let e = sym c.closed-jobs.ensures in (
+    let e = sym c.closed_jobs.ensures in (
       subst (λ (js : List Job). (j : ℕ) → twice (jobs_of js j).table ≡ false) e new_once,
       (
         subst (λ (js : List Job). (j : ℕ) → (jobs_of js j).time ≤ (jobs_of js j).steps * 4294967295) e new_timed,

@@ -29,6 +29,6 @@ returns-in-Ok c =
       world = λ m.
           let w : World = world_of c.args.self.now.jobs m in
           accepts j (replies n c.args.registers) w took.0
-          ∙ settles_record j w (replied_job b c.args.registers) (jobs_of c.set-record.new.self.jobs) done (c.set-record.ensures ∙ ap (upd w.jobs j) seat);
+          ∙ settles_record j w (replied_job b c.args.registers) (jobs_of c.set_record.new.self.jobs) done (c.set_record.ensures ∙ ap (upd w.jobs j) seat);
       handed = tt;
     }

@@ -14,32 +14,32 @@ use Rattle.model.proofs.Landings.{run_settles, run_at, frame_at}
 use Rattle.engine.proofs.Judged.{given, withheld}
 use Rattle.engine.proofs.jobs.Engine.run.Goals as goal
 
-pub returns-in-err-record : goal.returns-in-err-record
-returns-in-err-record g c =
+pub returns-in_err-record : goal.returns-in_err-record
+returns-in_err-record g c =
     let w : World = world_of c.args.self.now.jobs (g.M.Memory.mem c.args.memory.now) in
     let j = c.args.job in
     let p = err_from_is_err_and c.from-residual.result c.from-residual.ensures.1 in
-    refuses j (runs c.args.limit) w c.in-err-record.field-0.0 (withheld (judge_run j c.args.limit (w.jobs j)) (w.jobs j) _ c.in-err-record.ensures)
+    refuses j (runs c.args.limit) w c.in_err-record.field-0.0 (withheld (judge_run j c.args.limit (w.jobs j)) (w.jobs j) _ c.in_err-record.ensures)
     ∙ ap {B = Done} (λ (r : Result Outcome Refusal). record { world = w; answer = ran_answer r }) (sym (p.1 ∙ ap (λ (e : Refusal). Err e) p.2))
 
 pub returns : goal.returns
 returns g c =
     let w : World = world_of c.args.self.now.jobs (g.M.Memory.mem c.args.memory.now) in
-    let m : Mem = g.M.Memory.mem c.run-job-run.new.memory in
+    let m : Mem = g.M.Memory.mem c.run_job-run.new.memory in
     let j = c.args.job in
     let n = c.args.limit in
     let b : Job = w.jobs j in
-    let r = c.run-job-run.result in
-    let cpu = c.run-job-run.new.processor in
-    let took = given (judge_run j n b) b c.in-ok-record.record c.in-ok-record.ensures in
-    let same : c.in-ok-record.record ≡ b = took.1 in
-    let table : c.table-of-table.result.entries ≡ b.table = c.table-of-table.ensures ∙ ap (λ (x : Job). x.table) same in
+    let r = c.run_job-run.result in
+    let cpu = c.run_job-run.new.processor in
+    let took = given (judge_run j n b) b c.in_ok-record.record c.in_ok-record.ensures in
+    let same : c.in_ok-record.record ≡ b = took.1 in
+    let table : c.table_of-table.result.entries ≡ b.table = c.table_of-table.ensures ∙ ap (λ (x : Job). x.table) same in
     let seat : c.count.new.seat ≡ ran_job b r cpu = c.count.ensures ∙ ap (λ (x : Job). ran_job x r cpu) same in
-    let put : jobs_of c.set-record.new.self.jobs ≡ upd w.jobs j (ran_job b r cpu) = c.set-record.ensures ∙ ap (upd w.jobs j) seat in
+    let put : jobs_of c.set_record.new.self.jobs ≡ upd w.jobs j (ran_job b r cpu) = c.set_record.ensures ∙ ap (upd w.jobs j) seat in
     accepts j (runs n) w took.0
-    ∙ run_settles j n w cpu r (jobs_of c.set-record.new.self.jobs) m _
-    (run_at c.table-of-table.result.entries b.table n r c.in-ok-record.record.processor b.processor cpu m w.mem table (ap (λ (x : Job). x.processor) same) c.run-job-run.ensures.all)
-    (frame_at c.table-of-table.result.entries b.table m w.mem table c.run-job-run.ensures.kept)
+    ∙ run_settles j n w cpu r (jobs_of c.set_record.new.self.jobs) m _
+    (run_at c.table_of-table.result.entries b.table n r c.in_ok-record.record.processor b.processor cpu m w.mem table (ap (λ (x : Job). x.processor) same) c.run_job-run.ensures.all)
+    (frame_at c.table_of-table.result.entries b.table m w.mem table c.run_job-run.ensures.kept)
     put
-    (c.receipt-for.ensures ∙ ap (owed_by r.stop j) c.latest-call-number.ensures
+    (c.receipt_for.ensures ∙ ap (owed_by r.stop j) c.latest_call-number.ensures
     ∙ ap (λ (f : ℕ → Job). owed_by r.stop j (f j).calls) put ∙ ap (λ (x : Job). owed_by r.stop j x.calls) (upd_same w.jobs j (ran_job b r cpu)))

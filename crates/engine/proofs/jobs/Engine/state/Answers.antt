@@ -13,16 +13,16 @@ use Rattle.model.proofs.Settling.{refuses, accepts, settles_answer}
 use Rattle.engine.proofs.Judged.{given, withheld}
 use Rattle.engine.proofs.jobs.Engine.state.Goals as goal
 
-pub returns-in-err-record : goal.returns-in-err-record
-returns-in-err-record c =
+pub returns-in_err-record : goal.returns-in_err-record
+returns-in_err-record c =
     let j = c.args.job in
     let b : Job = jobs_of c.args.self.now.jobs j in
     let p = err_from_is_err_and c.from-residual.result c.from-residual.ensures.1 in
-    let was : c.from-residual.result ≡ Err c.in-err-record.field-0.0 = p.1 ∙ ap (λ (e : Refusal). Err e) p.2 in
+    let was : c.from-residual.result ≡ Err c.in_err-record.field-0.0 = p.1 ∙ ap (λ (e : Refusal). Err e) p.2 in
     record {
       world = λ m.
           let w : World = world_of c.args.self.now.jobs m in
-          refuses j states w c.in-err-record.field-0.0 (withheld (judge_open_job j b) b _ c.in-err-record.ensures)
+          refuses j states w c.in_err-record.field-0.0 (withheld (judge_open_job j b) b _ c.in_err-record.ensures)
           ∙ ap {B = Done} (λ (r : Result (Unit {0}) Refusal). record { world = w; answer = state_answer r c.args.out.now }) (sym was);
       untouched = rw p.1 refl;
     }
@@ -31,7 +31,7 @@ pub returns : goal.returns
 returns c =
     let j = c.args.job in
     let b : Job = jobs_of c.args.self.now.jobs j in
-    let took = given (judge_open_job j b) b c.in-ok-record.record c.in-ok-record.ensures in
+    let took = given (judge_open_job j b) b c.in_ok-record.record c.in_ok-record.ensures in
     record {
       world = λ m.
           let w : World = world_of c.args.self.now.jobs m in

@@ -7,7 +7,7 @@ pub loop-charge-preserved : goal.loop-charge-preserved
 loop-charge-preserved c =
     omega (
       arith,
-      c.saturating-add-cents.ensures,
+      c.saturating_add-cents.ensures,
       c.loop-charge.invariant,
       sum_by_more (λ x. x.cents) c.args.charges.now c.loop-charge.charge-index (record { cents = 0 }) c.loop-charge-test.true,
     )
