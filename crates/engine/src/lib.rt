@@ -1,5 +1,6 @@
 // The engine: eight jobs over a memory that is lent at each call.
 #![tactic(auto)]
+
 pub mod calls;
 pub mod jobs;
 pub mod judging;

@@ -9,11 +9,8 @@ use Rattle.desk.proofs.Owing.{Taken, taken, refused_receipt, no_mem}
 use Rattle.desk.proofs.Keeping.{receipt_world, receipt_kept, receipt_accepted}
 use Rattle.desk.proofs.desk.Desk.abandon.Goals as goal
 
-pub invariant-of-self : goal.invariant-of-self
-invariant-of-self c = (
-  λ j. subst (λ (l : List (Option Receipt)). owed_to j (jobs_of c.args.self.now.engine.jobs j) (get_or l j None) ≡ true) (sym c.in_default.ensures.after) (c.args.self.now.kept j),
-  tt,
-)
+pub invariant_of-self : goal.invariant_of-self
+invariant_of-self c = record { kept = λ j. subst (λ (l : List (Option Receipt)). owed_to j (jobs_of c.args.self.now.engine.jobs j) (get_or l j None) ≡ true) (sym c.in_default.ensures.after) (c.args.self.now.kept j) }
 
 pub returns-in_default : goal.returns-in_default
 returns-in_default c =
@@ -26,15 +23,13 @@ returns-in_default c =
       answer = sym (ap held_answer q.1);
     }
 
-pub invariant-of-self-2 : goal.invariant-of-self-2
-invariant-of-self-2 c =
+pub invariant_of-self-2 : goal.invariant_of-self-2
+invariant_of-self-2 c =
     let self = c.args.self.now in
     let t : Taken (jobs_of self.engine.jobs) self.held.receipts c.args.job c.args.number c.in-Some.receipt =
-    taken (jobs_of self.engine.jobs) self.held.receipts c.args.job c.args.number c.in-Some.receipt self.kept self.held.eight c.in-Some.ensures.value in (
-      receipt_kept (abandons) (world_of self.engine.jobs no_mem) (world_of c.abandon.new.self.jobs no_mem) self.held.receipts c.args.job c.args.number c.in-Some.receipt _
-          t (c.abandon.ensures.world no_mem) refl c.take.new.self.receipts refl self.kept self.held.eight c.in-Some.ensures.after,
-      tt,
-    )
+    taken (jobs_of self.engine.jobs) self.held.receipts c.args.job c.args.number c.in-Some.receipt self.kept self.held.eight c.in-Some.ensures.value in
+    record { kept = receipt_kept (abandons) (world_of self.engine.jobs no_mem) (world_of c.abandon.new.self.jobs no_mem) self.held.receipts c.args.job c.args.number c.in-Some.receipt _
+          t (c.abandon.ensures.world no_mem) refl c.take.new.self.receipts refl self.kept self.held.eight c.in-Some.ensures.after }
 
 pub unreachable-requires : goal.unreachable-requires
 unreachable-requires c =

@@ -4,5 +4,5 @@ use Rattle.desk.proofs.Keeping.{new_keeps}
 use Rattle.desk.proofs.Owing.{no_mem}
 use Rattle.desk.proofs.desk.Desk.new.Goals as goal
 
-pub invariant-of-result : goal.invariant-of-result
-invariant-of-result c = (new_keeps _ c.none.result.receipts (ap (λ (w : World). w.jobs) (c.new.ensures.world no_mem)) c.none.ensures, tt)
+pub invariant_of-result : goal.invariant_of-result
+invariant_of-result c = record { kept = new_keeps _ c.none.result.receipts (ap (λ (w : World). w.jobs) (c.new.ensures.world no_mem)) c.none.ensures }

@@ -6,21 +6,19 @@ use Rattle.desk.proofs.Owing.{all_kept}
 use Rattle.desk.proofs.Keeping.{Ran-owes, run_owes, run_refused}
 use Rattle.desk.proofs.desk.Desk.run.Goals as goal
 
-pub invariant-of-self : goal.invariant-of-self
-invariant-of-self g c =
+pub invariant_of-self : goal.invariant_of-self
+invariant_of-self g c =
     let w : World = world_of c.args.self.now.engine.jobs (g.M.Memory.mem c.args.memory.now) in
     let v : World = world_of c.run.new.self.jobs (g.M.Memory.mem c.run.new.memory) in
     let same : w.jobs ≡ v.jobs = run_refused c.args.job c.args.limit w v c.in_err-run.field-0.0 c.in_err-run.ensures in
-    (λ j. subst (λ (f : ℕ → Job). owed_to j (f j) (get_or c.args.self.now.held.receipts j None) ≡ true) same (c.args.self.now.kept j), tt)
+    record { kept = λ j. subst (λ (f : ℕ → Job). owed_to j (f j) (get_or c.args.self.now.held.receipts j None) ≡ true) same (c.args.self.now.kept j) }
 
-pub invariant-of-self-2 : goal.invariant-of-self-2
-invariant-of-self-2 g c =
+pub invariant_of-self-2 : goal.invariant_of-self-2
+invariant_of-self-2 g c =
     let self = c.args.self.now in
     let w : World = world_of self.engine.jobs (g.M.Memory.mem c.args.memory.now) in
     let v : World = world_of c.run.new.self.jobs (g.M.Memory.mem c.run.new.memory) in
     let says : Ran-owes c.args.job w v c.in_ok-run.field-0.receipt =
-    run_owes c.args.job c.args.limit w v c.in_ok-run.field-0.run c.in_ok-run.field-0.receipt c.in_ok-run.ensures in (
-      all_kept w.jobs v.jobs self.held.receipts c.replace.new.self.receipts c.args.job (v.jobs c.args.job) c.in_ok-run.field-0.receipt self.kept
-          (let low : c.args.job < 8 = says.low in omega (arith, self.held.eight)) says.jobs c.replace.ensures.after says.owed,
-      tt,
-    )
+    run_owes c.args.job c.args.limit w v c.in_ok-run.field-0.run c.in_ok-run.field-0.receipt c.in_ok-run.ensures in
+    record { kept = all_kept w.jobs v.jobs self.held.receipts c.replace.new.self.receipts c.args.job (v.jobs c.args.job) c.in_ok-run.field-0.receipt self.kept
+          (let low : c.args.job < 8 = says.low in omega (arith, self.held.eight)) says.jobs c.replace.ensures.after says.owed }

@@ -14,7 +14,7 @@ pub returns-in_err-idle_record : goal.returns-in_err-idle_record
 returns-in_err-idle_record c =
     let j = c.args.job in
     let b = jobs_of c.args.self.now.jobs j in
-    let p = err_from_is_err_and c.from-residual.result c.from-residual.ensures.1 in
+    let p = err_from_is_err_and c.from_residual.result c.from_residual.ensures.1 in
     λ m.
     let w : World = world_of c.args.self.now.jobs m in
     refuses j closes w c.in_err-idle_record.field-0.0 (withheld (judge_close j b) b _ c.in_err-idle_record.ensures)

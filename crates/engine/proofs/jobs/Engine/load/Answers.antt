@@ -16,7 +16,7 @@ returns-in_err-record g c =
     let w : World = world_of c.args.self.now.jobs (g.M.Memory.mem c.args.memory.now) in
     let j = c.args.job in
     let b = w.jobs j in
-    let p = err_from_is_err_and c.from-residual.result c.from-residual.ensures.1 in
+    let p = err_from_is_err_and c.from_residual.result c.from_residual.ensures.1 in
     refuses j (loads c.args.at c.args.bytes.now) w c.in_err-record.field-0.0
     (stopped (no_such_job j) (not_open b) _ _ (withheld (judge_open_job j b) b _ c.in_err-record.ensures))
     ∙ ap {B = Done} (λ (r : Result (Unit {0}) Refusal). record { world = w; answer = done_answer r }) (sym (p.1 ∙ ap (λ (e : Refusal). Err e) p.2))

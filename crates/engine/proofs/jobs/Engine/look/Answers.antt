@@ -16,7 +16,7 @@ returns-in_err-record g c =
     let w : World = world_of c.args.self.now.jobs (g.M.Memory.mem c.args.memory.now) in
     let j = c.args.job in
     let b = w.jobs j in
-    let p = err_from_is_err_and c.from-residual.result c.from-residual.ensures.1 in
+    let p = err_from_is_err_and c.from_residual.result c.from_residual.ensures.1 in
     record {
       world =
           refuses j (looks c.args.at (length c.args.out.now)) w c.in_err-record.field-0.0

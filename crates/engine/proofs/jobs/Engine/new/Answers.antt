@@ -8,15 +8,11 @@ use Rattle.engine.proofs.jobs.Engine.new.Goals as goal
 pub returns : goal.returns
 returns c = record { world = λ m. ap (λ (js : List Job). world_of js m) c.closed_jobs.ensures; protected = protected }
 
-pub invariant-of-result : goal.invariant-of-result
-invariant-of-result c =
-    let e = sym c.closed_jobs.ensures in (
-      subst (λ (js : List Job). (j : ℕ) → twice (jobs_of js j).table ≡ false) e new_once,
-      (
-        subst (λ (js : List Job). (j : ℕ) → (jobs_of js j).time ≤ (jobs_of js j).steps * 4294967295) e new_timed,
-        (
-          subst (λ (js : List Job). (j : ℕ) → (jobs_of js j).calls ≤ (jobs_of js j).steps) e new_called,
-          tt,
-        ),
-      ),
-    )
+pub invariant_of-result : goal.invariant_of-result
+invariant_of-result c =
+    let e = sym c.closed_jobs.ensures in
+    record {
+      once = subst (λ (js : List Job). (j : ℕ) → twice (jobs_of js j).table ≡ false) e new_once;
+      timed = subst (λ (js : List Job). (j : ℕ) → (jobs_of js j).time ≤ (jobs_of js j).steps * 4294967295) e new_timed;
+      called = subst (λ (js : List Job). (j : ℕ) → (jobs_of js j).calls ≤ (jobs_of js j).steps) e new_called;
+    }

@@ -18,7 +18,7 @@ pub returns-in_err-record : goal.returns-in_err-record
 returns-in_err-record g c =
     let w : World = world_of c.args.self.now.jobs (g.M.Memory.mem c.args.memory.now) in
     let j = c.args.job in
-    let p = err_from_is_err_and c.from-residual.result c.from-residual.ensures.1 in
+    let p = err_from_is_err_and c.from_residual.result c.from_residual.ensures.1 in
     refuses j (runs c.args.limit) w c.in_err-record.field-0.0 (withheld (judge_run j c.args.limit (w.jobs j)) (w.jobs j) _ c.in_err-record.ensures)
     ∙ ap {B = Done} (λ (r : Result Outcome Refusal). record { world = w; answer = ran_answer r }) (sym (p.1 ∙ ap (λ (e : Refusal). Err e) p.2))
 

@@ -17,8 +17,8 @@ pub returns-in_err-record : goal.returns-in_err-record
 returns-in_err-record c =
     let j = c.args.job in
     let b : Job = jobs_of c.args.self.now.jobs j in
-    let p = err_from_is_err_and c.from-residual.result c.from-residual.ensures.1 in
-    let was : c.from-residual.result ≡ Err c.in_err-record.field-0.0 = p.1 ∙ ap (λ (e : Refusal). Err e) p.2 in
+    let p = err_from_is_err_and c.from_residual.result c.from_residual.ensures.1 in
+    let was : c.from_residual.result ≡ Err c.in_err-record.field-0.0 = p.1 ∙ ap (λ (e : Refusal). Err e) p.2 in
     record {
       world = λ m.
           let w : World = world_of c.args.self.now.jobs m in
