@@ -1,5 +1,6 @@
 // freight: two shippers' programs price a dozen shipments, each alone and then beside each other and a trespasser.
 #![tactic(auto)]
+
 mod listings;
 mod pricing;
 mod problem;

@@ -1,5 +1,6 @@
 // An image from the file to the figure: what run5500 does.
 #![tactic(auto)]
+
 ghost use Rattle.std.specs.Prelude.{◌≡◌, ℕ, true, Some};
 ghost use Rattle.memory.specs.Memories.{Mem};
 ghost use Rattle.registers.specs.Processors.{bank_of};

@@ -20,7 +20,7 @@ returns-in_err-open g c =
     let image = c.in_ok-image.image in
     let p : Parsed = record { table = image.table; start = image.start; blocks = image_blocks image } in
     let w : World = world_of c.new-engine.result.jobs m in
-    let q = err_from_is_err_and c.from-residual-in_err-open.result c.from-residual-in_err-open.ensures.1 in
+    let q = err_from_is_err_and c.from_residual-in_err-open.result c.from_residual-in_err-open.ensures.1 in
     let opened = ap₂ (λ (t : List ℕ) (s : ℕ). does (opens 0 t s) w) (sym c.table.ensures) (sym c.start.ensures) ∙ c.in_err-open.ensures in
     let all = open_refused file m p w c.in_ok-image.ensures.answer (c.new-engine.ensures.world m) _ c.in_err-open.field-0.0 opened in
     record {
@@ -36,7 +36,7 @@ returns-in_err-load_all g c =
     let p : Parsed = record { table = image.table; start = image.start; blocks = image_blocks image } in
     let w : World = world_of c.new-engine.result.jobs m in
     let v : World = world_of c.open.new.self.jobs (g.M.Memory.mem c.open.new.memory) in
-    let q = err_from_is_err_and c.from-residual-in_err-load_all.result c.from-residual-in_err-load_all.ensures.1 in
+    let q = err_from_is_err_and c.from_residual-in_err-load_all.result c.from_residual-in_err-load_all.ensures.1 in
     let opened = ap₂ (λ (t : List ℕ) (s : ℕ). does (opens 0 t s) w) (sym c.table.ensures) (sym c.start.ensures) ∙ c.in_ok-open.ensures in
     let all =
     load_refused file m p w c.in_ok-image.ensures.answer (c.new-engine.ensures.world m) v opened _ c.in_err-load_all.field-0.0
@@ -55,7 +55,7 @@ returns-in_err-run g c =
     let w : World = world_of c.new-engine.result.jobs m in
     let v : World = world_of c.open.new.self.jobs (g.M.Memory.mem c.open.new.memory) in
     let u : World = world_of c.open.new.self.jobs (g.M.Memory.mem c.load_all.new.memory) in
-    let q = err_from_is_err_and c.from-residual-in_err-run.result c.from-residual-in_err-run.ensures.1 in
+    let q = err_from_is_err_and c.from_residual-in_err-run.result c.from_residual-in_err-run.ensures.1 in
     let opened = ap₂ (λ (t : List ℕ) (s : ℕ). does (opens 0 t s) w) (sym c.table.ensures) (sym c.start.ensures) ∙ c.in_ok-open.ensures in
     let all =
     run_refused file m p w c.in_ok-image.ensures.answer (c.new-engine.ensures.world m) v opened u

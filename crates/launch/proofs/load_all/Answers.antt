@@ -16,7 +16,7 @@ loop-block-preserved g c =
 pub returns-in_err-load : goal.returns-in_err-load
 returns-in_err-load g c =
     let v : World = world_of c.args.engine.now.jobs (g.M.Memory.mem c.load.new.memory) in
-    let p = err_from_is_err_and c.from-residual.result c.from-residual.ensures.1 in
+    let p = err_from_is_err_and c.from_residual.result c.from_residual.ensures.1 in
     ap (λ (r : Result (Unit {0}) Refusal). loaded_by r v) (p.1 ∙ ap (λ (e : Refusal). Err e) p.2)
     ∙ load_stop (left c.loop-block.rest) (world_of c.args.engine.now.jobs (g.M.Memory.mem c.loop-block.memory)) (block_of c.in-Some.block) (left c.next.new.self) v
     c.in_err-load.field-0.0 c.in-Some.ensures c.in_err-load.ensures

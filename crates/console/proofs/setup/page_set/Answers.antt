@@ -34,7 +34,7 @@ returns-in_err-new c =
     let n = get_or l i 0 in
     let here = from_index l i c.loop-number-test.true in
     let none = page_refused n c.in_err-new.field-0.0 c.in_err-new.ensures in
-    let p = err_from_is_err_and c.from-residual.result c.from-residual.ensures.1 in
+    let p = err_from_is_err_and c.from_residual.result c.from_residual.ensures.1 in
     subst (λ (r : Result PageSet Refusal). Gathered l r) (sym (p.1 ∙ ap (λ (e : Refusal). Err e) p.2)) (
       sym c.loop-number.invariant.0 ∙ all_more (drop i l) n (drop (i + 1) l) here ∙ ap (λ z. z && all_pages (drop (i + 1) l)) none.0,
       none.1,

@@ -28,8 +28,10 @@ invariant_of-self-2 c =
     let self = c.args.self.now in
     let t : Taken (jobs_of self.engine.jobs) self.held.receipts c.args.job c.args.number c.in-Some.receipt =
     taken (jobs_of self.engine.jobs) self.held.receipts c.args.job c.args.number c.in-Some.receipt self.kept self.held.eight c.in-Some.ensures.value in
-    record { kept = receipt_kept (λ k. replies k c.args.registers) (world_of self.engine.jobs no_mem) (world_of c.reply.new.self.jobs no_mem) self.held.receipts c.args.job c.args.number c.in-Some.receipt _
-          t (c.reply.ensures.world no_mem) refl c.take.new.self.receipts refl self.kept self.held.eight c.in-Some.ensures.after }
+    record {
+      kept = receipt_kept (λ k. replies k c.args.registers) (world_of self.engine.jobs no_mem) (world_of c.reply.new.self.jobs no_mem) self.held.receipts c.args.job c.args.number c.in-Some.receipt _
+          t (c.reply.ensures.world no_mem) refl c.take.new.self.receipts refl self.kept self.held.eight c.in-Some.ensures.after;
+    }
 
 pub unreachable-requires : goal.unreachable-requires
 unreachable-requires c =

@@ -20,5 +20,7 @@ invariant_of-self-2 g c =
     let v : World = world_of c.run.new.self.jobs (g.M.Memory.mem c.run.new.memory) in
     let says : Ran-owes c.args.job w v c.in_ok-run.field-0.receipt =
     run_owes c.args.job c.args.limit w v c.in_ok-run.field-0.run c.in_ok-run.field-0.receipt c.in_ok-run.ensures in
-    record { kept = all_kept w.jobs v.jobs self.held.receipts c.replace.new.self.receipts c.args.job (v.jobs c.args.job) c.in_ok-run.field-0.receipt self.kept
-          (let low : c.args.job < 8 = says.low in omega (arith, self.held.eight)) says.jobs c.replace.ensures.after says.owed }
+    record {
+      kept = all_kept w.jobs v.jobs self.held.receipts c.replace.new.self.receipts c.args.job (v.jobs c.args.job) c.in_ok-run.field-0.receipt self.kept
+          (let low : c.args.job < 8 = says.low in omega (arith, self.held.eight)) says.jobs c.replace.ensures.after says.owed;
+    }
