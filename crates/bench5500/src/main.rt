@@ -1,5 +1,6 @@
 // bench5500: how fast the engine runs. Times go to standard error, and checksums, which are always the same, to standard output.
 #![tactic(auto)]
+
 use boards::single::Filling;
 use console::questions::hash;
 use desk::desk::Desk;

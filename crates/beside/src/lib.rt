@@ -1,5 +1,6 @@
 // Jobs beside each other, engines beside each other, piles of layers, and the longest run. Nothing but tests.
 #![tactic(auto)]
+
 #[cfg(test)]
 mod longest;
 #[cfg(test)]

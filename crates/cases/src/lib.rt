@@ -1,5 +1,6 @@
 // Worked cases of the meanings, and a small image to try them with.
 #![tactic(auto)]
+
 ghost use Rattle.std.specs.Prelude.{◌≡◌};
 ghost use Rattle.cases.specs.Cases.{Worked};
 ghost use Rattle.cases.specs.Samples.{sample_bytes, Halts};

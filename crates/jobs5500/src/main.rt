@@ -1,5 +1,6 @@
 // jobs5500: reads a script of calls from standard input, and prints one line of answer for each.
 #![tactic(auto)]
+
 use console::answers::Answer;
 use console::calls::answer_call;
 use console::questions::answer_question;

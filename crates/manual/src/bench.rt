@@ -19,7 +19,7 @@ use std::alloc::AllocError;
 pub const TABLE: [u8; 15] = [12, 20, 0, 0, 0, 0, 0, 0, 0, 0, 0, 0, 0, 0, 0];
 
 // The buffer of a board.
-pub fn zeros(rt: &HostRuntime) -> Result<Vec<u8>, AllocError> {
+pub fn zeros<R: AllocGlobal>(rt: &R) -> Result<Vec<u8>, AllocError> {
     vec![in rt.alloc(); 0u8; 65536]
 }
 

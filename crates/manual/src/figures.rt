@@ -1,5 +1,6 @@
 // The time of each form of each instruction, in nanoseconds.
 use super::bench::{plain, trial, zeros};
+use std::process::Abort;
 use std::test::*;
 
 // A program that ends with HALT, which takes no time, and what all of it takes.
@@ -10,12 +11,12 @@ struct Timed {
     time: u64,
 }
 
-fn check_times(rt: HostRuntime, rows: &[Timed]) -> Result<(), Fail> {
-    let mut bytes = zeros(&rt)?;
+fn check_times<R: Abort + AllocGlobal>(rt: &R, rows: &[Timed]) -> Result<(), Fail> {
+    let mut bytes = zeros(rt)?;
     let mut board = plain(&mut bytes);
     for row in rows {
         let seen = trial(&mut board, row.program, 1000)?;
-        assert_eq!(
+        assert_eq!(rt;
             (seen.run.stop.number(), seen.run.time, seen.state.time),
             (2, row.time, row.time),
             "{}",
@@ -29,7 +30,7 @@ fn check_times(rt: HostRuntime, rows: &[Timed]) -> Result<(), Fail> {
 #[test]
 fn operations_on_a(rt: HostRuntime) -> Result<(), Fail> {
     check_times(
-        rt,
+        &rt,
         &[
             Timed {
                 name: "AD 1",
@@ -159,7 +160,7 @@ fn operations_on_a(rt: HostRuntime) -> Result<(), Fail> {
 #[test]
 fn operations_on_others(rt: HostRuntime) -> Result<(), Fail> {
     check_times(
-        rt,
+        &rt,
         &[
             Timed {
                 name: "ADB 1",
@@ -289,7 +290,7 @@ fn operations_on_others(rt: HostRuntime) -> Result<(), Fail> {
 #[test]
 fn loads_and_stores(rt: HostRuntime) -> Result<(), Fail> {
     check_times(
-        rt,
+        &rt,
         &[
             Timed {
                 name: "LA 9",
@@ -409,7 +410,7 @@ fn loads_and_stores(rt: HostRuntime) -> Result<(), Fail> {
 #[test]
 fn jumps(rt: HostRuntime) -> Result<(), Fail> {
     check_times(
-        rt,
+        &rt,
         &[
             Timed {
                 name: "JMP",
@@ -504,7 +505,7 @@ fn jumps(rt: HostRuntime) -> Result<(), Fail> {
 #[test]
 fn calls(rt: HostRuntime) -> Result<(), Fail> {
     check_times(
-        rt,
+        &rt,
         &[
             Timed {
                 name: "CALL",
@@ -599,7 +600,7 @@ fn calls(rt: HostRuntime) -> Result<(), Fail> {
 #[test]
 fn returns(rt: HostRuntime) -> Result<(), Fail> {
     check_times(
-        rt,
+        &rt,
         &[
             Timed {
                 name: "CALL, RET",
@@ -694,7 +695,7 @@ fn returns(rt: HostRuntime) -> Result<(), Fail> {
 #[test]
 fn stack_shifts_and_modes(rt: HostRuntime) -> Result<(), Fail> {
     check_times(
-        rt,
+        &rt,
         &[
             Timed {
                 name: "POP",
@@ -829,7 +830,7 @@ fn stack_shifts_and_modes(rt: HostRuntime) -> Result<(), Fail> {
 #[test]
 fn blocks_and_fields(rt: HostRuntime) -> Result<(), Fail> {
     check_times(
-        rt,
+        &rt,
         &[
             Timed {
                 name: "BT of 3",

@@ -2,6 +2,7 @@
 use super::bench::{plain, zeros};
 use launch::launch;
 use memory::Memory;
+use std::process::Abort;
 use std::test::*;
 
 // The bytes of examples/freight.img, whose listing is examples/freight.lst.
@@ -66,12 +67,16 @@ struct Refused {
     place: u32,
 }
 
-fn check_images(rt: HostRuntime, told: &[Told], refused: &[Refused]) -> Result<(), Fail> {
-    let mut bytes = zeros(&rt)?;
+fn check_images<R: Abort + AllocGlobal>(
+    rt: &R,
+    told: &[Told],
+    refused: &[Refused],
+) -> Result<(), Fail> {
+    let mut bytes = zeros(rt)?;
     let mut board = plain(&mut bytes);
     for row in told {
         let figure = launch(row.file, &mut board)?;
-        assert_eq!(
+        assert_eq!(rt;
             (figure.stop.number(), figure.steps, figure.a),
             (row.stop, row.steps, row.a),
             "{}",
@@ -81,7 +86,7 @@ fn check_images(rt: HostRuntime, told: &[Told], refused: &[Refused]) -> Result<(
     for row in refused {
         match launch(row.file, &mut board) {
             Ok(_) => return Err(Fail::new(row.name)),
-            Err(refusal) => assert_eq!(
+            Err(refusal) => assert_eq!(rt;
                 (refusal.ground.number(), refusal.place),
                 (row.number, row.place),
                 "{}",
@@ -96,7 +101,7 @@ fn check_images(rt: HostRuntime, told: &[Told], refused: &[Refused]) -> Result<(
 #[test]
 fn small_images(rt: HostRuntime) -> Result<(), Fail> {
     check_images(
-        rt,
+        &rt,
         &[
             Told {
                 name: "LA 5, AD 3, HALT",

@@ -1,5 +1,6 @@
 // Programs run through the engine, and calls made of it, with what the processor's manual and the rules say of each. Nothing but tests.
 #![tactic(auto)]
+
 #[cfg(test)]
 mod bench;
 #[cfg(test)]

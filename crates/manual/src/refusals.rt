@@ -9,18 +9,44 @@ use memory::page::{Page, Sector};
 use memory::sets::PageSet;
 use model::job::{Registers, State};
 use refusal::Refusal;
+use std::process::Abort;
 use std::test::*;
 
-fn check_refusal(refusal: Refusal, number: u8, place: u32) -> Result<(), Fail> {
-    assert_eq!((refusal.ground.number(), refusal.place), (number, place));
+fn check_refusal(
+    rt: &impl Abort,
+    name: &str,
+    refusal: Refusal,
+    number: u8,
+    place: u32,
+) -> Result<(), Fail> {
+    assert_eq!(rt;
+        (refusal.ground.number(), refusal.place),
+        (number, place),
+        "{name}"
+    );
     Ok(())
 }
 
-fn check_refused<T: Drop>(answer: Result<T, Refusal>, number: u8, place: u32) -> Result<(), Fail> {
+fn check_named<T: Drop>(
+    rt: &impl Abort,
+    name: &str,
+    answer: Result<T, Refusal>,
+    number: u8,
+    place: u32,
+) -> Result<(), Fail> {
     match answer {
         Ok(_) => Err(Fail::new("accepted")),
-        Err(refusal) => check_refusal(refusal, number, place),
+        Err(refusal) => check_refusal(rt, name, refusal, number, place),
     }
+}
+
+fn check_refused<T: Drop>(
+    rt: &impl Abort,
+    answer: Result<T, Refusal>,
+    number: u8,
+    place: u32,
+) -> Result<(), Fail> {
+    check_named(rt, "", answer, number, place)
 }
 
 // An image file, and how it is refused.
@@ -31,9 +57,9 @@ struct File {
     place: u32,
 }
 
-fn check_files(rows: &[File]) -> Result<(), Fail> {
+fn check_files(rt: &impl Abort, rows: &[File]) -> Result<(), Fail> {
     for row in rows {
-        check_refused(Image::read(row.bytes), row.number, row.place)?;
+        check_refused(rt, Image::read(row.bytes), row.number, row.place)?;
     }
     Ok(())
 }
@@ -60,7 +86,7 @@ fn files_cut_off(rt: HostRuntime) -> Result<(), Fail> {
         (30, 3, 22),
     ] {
         assert!(rt; length <= 31);
-        check_refused(Image::read(&sample[0..length]), number, place)?;
+        check_refused(&rt, Image::read(&sample[0..length]), number, place)?;
     }
     // without a block, and with one, it is complete
     assert!(rt; Image::read(&sample[0..22]).is_ok());
@@ -70,48 +96,51 @@ fn files_cut_off(rt: HostRuntime) -> Result<(), Fail> {
 
 // The first five bytes, each in turn.
 #[test]
-fn files_of_another_kind() -> Result<(), Fail> {
-    check_files(&[
-        File {
-            bytes: b"EPJ\0\x01",
-            number: 2,
-            place: 0,
-        },
-        File {
-            bytes: b"DQJ\0\x01",
-            number: 2,
-            place: 0,
-        },
-        File {
-            bytes: b"DPK\0\x01",
-            number: 2,
-            place: 0,
-        },
-        File {
-            bytes: b"DPJ\x01\x01",
-            number: 2,
-            place: 0,
-        },
-        File {
-            bytes: b"DPJ\0\x02",
-            number: 2,
-            place: 0,
-        },
-        File {
-            bytes: b"DPJ\0\x01",
-            number: 3,
-            place: 5,
-        },
-    ])
+fn files_of_another_kind(rt: HostRuntime) -> Result<(), Fail> {
+    check_files(
+        &rt,
+        &[
+            File {
+                bytes: b"EPJ\0\x01",
+                number: 2,
+                place: 0,
+            },
+            File {
+                bytes: b"DQJ\0\x01",
+                number: 2,
+                place: 0,
+            },
+            File {
+                bytes: b"DPK\0\x01",
+                number: 2,
+                place: 0,
+            },
+            File {
+                bytes: b"DPJ\x01\x01",
+                number: 2,
+                place: 0,
+            },
+            File {
+                bytes: b"DPJ\0\x02",
+                number: 2,
+                place: 0,
+            },
+            File {
+                bytes: b"DPJ\0\x01",
+                number: 3,
+                place: 5,
+            },
+        ],
+    )
 }
 
 // 16,384 bytes are not too many, and one more is refused before anything else.
 #[test]
 fn files_too_long(rt: HostRuntime) -> Result<(), Fail> {
     let most = vec![in rt.alloc(); 0u8; 16384]?;
-    check_refused(Image::read(&most), 2, 0)?;
+    check_refused(&rt, Image::read(&most), 2, 0)?;
     let more = vec![in rt.alloc(); 0u8; 16385]?;
-    check_refused(Image::read(&more), 1, 16384)
+    check_refused(&rt, Image::read(&more), 1, 16384)
 }
 
 // A block is a part of the file, with the offset of its header.
@@ -139,8 +168,8 @@ fn blocks_of_a_file(rt: HostRuntime) -> Result<(), Fail> {
 // Page and sector numbers go up to 15.
 #[test]
 fn numbers(rt: HostRuntime) -> Result<(), Fail> {
-    check_refused(Page::new(16), 15, 0)?;
-    check_refused(Sector::new(16), 15, 0)?;
+    check_refused(&rt, Page::new(16), 15, 0)?;
+    check_refused(&rt, Sector::new(16), 15, 0)?;
     assert!(rt; Page::new(15).is_ok() && Sector::new(15).is_ok());
     Ok(())
 }
@@ -151,11 +180,11 @@ fn fills_of_a_short_buffer(rt: HostRuntime) -> Result<(), Fail> {
     let page = Page::new(15)?;
     let filling = Filling::new();
     let mut short = vec![in rt.alloc(); 7u8; 65535]?;
-    check_refused(filling.fill(&mut short, page, 0, &[1]), 1, 0)?;
-    check_refused(filling.fill(&mut short, page, 4095, &[1, 2]), 1, 0)?;
+    check_refused(&rt, filling.fill(&mut short, page, 0, &[1]), 1, 0)?;
+    check_refused(&rt, filling.fill(&mut short, page, 4095, &[1, 2]), 1, 0)?;
     // the board over it shows zeros and takes no writes
     let mut board = plain(&mut short);
-    check_refused(board.write(5, 1), 17, 5)?;
+    check_refused(&rt, board.write(5, 1), 17, 5)?;
     assert_eq!(rt; board.read(5), 0);
     Ok(())
 }
@@ -166,8 +195,8 @@ fn fills(rt: HostRuntime) -> Result<(), Fail> {
     let page = Page::new(15)?;
     let filling = Filling::new();
     let mut bytes = vec![in rt.alloc(); 7u8; 65536]?;
-    check_refused(filling.fill(&mut bytes, page, 4095, &[1, 2]), 15, 4095)?;
-    check_refused(filling.fill(&mut bytes, page, 4097, &[]), 15, 4097)?;
+    check_refused(&rt, filling.fill(&mut bytes, page, 4095, &[1, 2]), 15, 4095)?;
+    check_refused(&rt, filling.fill(&mut bytes, page, 4097, &[]), 15, 4097)?;
     filling.fill(&mut bytes, page, 4096, &[])?;
     filling.fill(&mut bytes, page, 4094, &[1, 2])?;
     let board = plain(&mut bytes);
@@ -185,8 +214,8 @@ fn writes(rt: HostRuntime) -> Result<(), Fail> {
     let mut board = Filling::new()
         .seal(PageSet::none().with(Page::new(6)?))
         .board(&mut bytes);
-    check_refused(board.write(24576, 1), 17, 24576)?;
-    check_refused(board.write(28671, 1), 17, 28671)?;
+    check_refused(&rt, board.write(24576, 1), 17, 24576)?;
+    check_refused(&rt, board.write(28671, 1), 17, 28671)?;
     board.write(28672, 1)?;
     assert_eq!(rt;
         [board.read(24576), board.read(28671), board.read(28672)],
@@ -324,14 +353,15 @@ fn openings_refused(rt: HostRuntime) -> Result<(), Fail> {
     )?;
     let mut state = State::blank();
     for row in &OPENINGS {
-        check_refused(
+        check_named(
+            &rt,
+            row.name,
             engine.open(&mut board, row.job, row.table, 0),
             row.number,
             row.place,
-        )
-        .note(row.name)?;
+        )?;
         assert_eq!(rt; board.read(16384), 9, "{}", row.name);
-        check_refused(engine.state(1, &mut state), 6, 0).note(row.name)?;
+        check_named(&rt, row.name, engine.state(1, &mut state), 6, 0)?;
     }
     Ok(())
 }
@@ -386,7 +416,7 @@ struct Loading {
 }
 
 // Job 0 has page 0 in sector 0, nothing in 1, the sealed page 6 in 2, page 7 without bit 3 in 3, the sealed page 9 in 4, and page 8 in 14.
-fn check_loads(rt: HostRuntime, rows: &[Loading]) -> Result<(), Fail> {
+fn check_loads<R: Abort + AllocGlobal>(rt: &R, rows: &[Loading]) -> Result<(), Fail> {
     let mut bytes = vec![in rt.alloc(); 0u8; 65536]?;
     let mut board = Filling::new()
         .seal(PageSet::none().with(Page::new(6)?).with(Page::new(9)?))
@@ -403,11 +433,11 @@ fn check_loads(rt: HostRuntime, rows: &[Loading]) -> Result<(), Fail> {
         if row.number == 0 {
             answer?;
         } else {
-            check_refused(answer, row.number, row.place).note(row.name)?;
+            check_named(rt, row.name, answer, row.number, row.place)?;
         }
     }
     // the bytes of the accepted ones are there, and none of the others
-    assert_eq!(
+    assert_eq!(rt;
         [
             board.read(4094),
             board.read(4095),
@@ -417,7 +447,7 @@ fn check_loads(rt: HostRuntime, rows: &[Loading]) -> Result<(), Fail> {
         ],
         [1, 2, 0, 0, 0]
     );
-    assert_eq!(
+    assert_eq!(rt;
         [
             board.read(28672),
             board.read(32767),
@@ -432,7 +462,7 @@ fn check_loads(rt: HostRuntime, rows: &[Loading]) -> Result<(), Fail> {
 #[test]
 fn loads(rt: HostRuntime) -> Result<(), Fail> {
     check_loads(
-        rt,
+        &rt,
         &[
             Loading {
                 name: "accepted",
@@ -572,13 +602,13 @@ fn jobs_not_open(rt: HostRuntime) -> Result<(), Fail> {
     let mut bytes = zeros(&rt)?;
     let mut board = plain(&mut bytes);
     let mut engine = Engine::new();
-    check_refusal(run_eighth(&mut engine, &mut board), 4, 0)?;
-    check_refused(watch(&mut engine, &mut board, 9), 6, 0)?;
+    check_refusal(&rt, "", run_eighth(&mut engine, &mut board), 4, 0)?;
+    check_refused(&rt, watch(&mut engine, &mut board, 9), 6, 0)?;
     engine.open(&mut board, 0, TABLE, 44)?;
     let mut state = State::blank();
     engine.state(0, &mut state)?;
-    check_refused(engine.state(8, &mut state), 4, 0)?;
-    check_refused(engine.state(1, &mut state), 6, 0)?;
+    check_refused(&rt, engine.state(8, &mut state), 4, 0)?;
+    check_refused(&rt, engine.state(1, &mut state), 6, 0)?;
     assert_eq!(rt; state.processor.p, 44);
     Ok(())
 }
@@ -591,8 +621,8 @@ fn jobs_ended(rt: HostRuntime) -> Result<(), Fail> {
     let mut engine = Engine::new();
     engine.open(&mut board, 0, TABLE, 44)?;
     let seen = watch(&mut engine, &mut board, 9)?;
-    check_refused(watch(&mut engine, &mut board, 0), 12, 0)?;
-    check_refused(engine.open(&mut board, 0, TABLE, 0), 5, 0)?;
+    check_refused(&rt, watch(&mut engine, &mut board, 0), 12, 0)?;
+    check_refused(&rt, engine.open(&mut board, 0, TABLE, 0), 5, 0)?;
     engine.load(&mut board, 0, 0, &[1])?;
     let mut state = State::blank();
     engine.state(0, &mut state)?;
@@ -624,13 +654,13 @@ fn receipts(rt: HostRuntime) -> Result<(), Fail> {
         };
         // counted from 1 at each opening
         assert_eq!(rt; shown.number, 1);
-        check_refusal(shown.waiting, 11, 0)?;
-        check_refused(shown.closing, 11, 0)?;
+        check_refusal(&rt, "", shown.waiting, 11, 0)?;
+        check_refused(&rt, shown.closing, 11, 0)?;
         let Some(refusal) = shown.elsewhere else {
             return Err(Fail::new("another engine took the receipt"));
         };
-        check_refusal(refusal, number, 0)?;
-        check_refused(engine.state(0, &mut state), 6, 0)?;
+        check_refusal(&rt, "", refusal, number, 0)?;
+        check_refused(&rt, engine.state(0, &mut state), 6, 0)?;
         if number == 6 {
             other.open(&mut board, 0, TABLE, 0)?;
         }
@@ -684,10 +714,10 @@ fn looks(rt: HostRuntime) -> Result<(), Fail> {
     engine.open(&mut board, 0, TABLE, 0)?;
     engine.load(&mut board, 0, 4095, &[1, 2])?;
     let mut out = [9u8; 2];
-    check_refused(engine.look(&board, 8, 65535, &mut out), 4, 0)?;
-    check_refused(engine.look(&board, 7, 65535, &mut out), 6, 0)?;
-    check_refused(engine.look(&board, 0, 65535, &mut out), 15, 65535)?;
-    check_refused(engine.look(&board, 0, 8191, &mut out), 16, 8192)?;
+    check_refused(&rt, engine.look(&board, 8, 65535, &mut out), 4, 0)?;
+    check_refused(&rt, engine.look(&board, 7, 65535, &mut out), 6, 0)?;
+    check_refused(&rt, engine.look(&board, 0, 65535, &mut out), 15, 65535)?;
+    check_refused(&rt, engine.look(&board, 0, 8191, &mut out), 16, 8192)?;
     assert_eq!(rt; out, [9, 9]);
     engine.look(&board, 0, 4095, &mut out)?;
     assert_eq!(rt; out, [1, 2]);
@@ -702,9 +732,9 @@ fn closings(rt: HostRuntime) -> Result<(), Fail> {
     let mut engine = Engine::new();
     engine.open(&mut board, 0, TABLE, 0)?;
     engine.load(&mut board, 0, 0, &[5])?;
-    check_refused(engine.close(8), 4, 0)?;
-    check_refused(engine.close(1), 6, 0)?;
-    check_refused(engine.open(&mut board, 1, TABLE, 0), 10, 0)?;
+    check_refused(&rt, engine.close(8), 4, 0)?;
+    check_refused(&rt, engine.close(1), 6, 0)?;
+    check_refused(&rt, engine.open(&mut board, 1, TABLE, 0), 10, 0)?;
     engine.close(0)?;
     assert_eq!(rt; board.read(0), 5);
     engine.open(&mut board, 1, TABLE, 0)?;
@@ -726,7 +756,7 @@ fn another_memory(rt: HostRuntime) -> Result<(), Fail> {
     let mut fixed = filling
         .seal(PageSet::none().with(Page::new(0)?))
         .board(&mut others);
-    check_refused(engine.load(&mut fixed, 0, 5, &[1]), 17, 5)?;
+    check_refused(&rt, engine.load(&mut fixed, 0, 5, &[1]), 17, 5)?;
     let seen = watch(&mut engine, &mut fixed, 9)?;
     assert_eq!(rt;
         (

@@ -1,6 +1,7 @@
 // What instructions do: the manual's sample operations and examples, the flags after them, and the string instructions.
 use super::bench::{plain, trial, zeros};
 use registers::bank::{Flags, Register};
+use std::process::Abort;
 use std::test::*;
 
 const O: bool = false;
@@ -21,19 +22,19 @@ fn listed(flags: Flags) -> [bool; 4] {
     [flags.carry, flags.zero, flags.sign, flags.parity]
 }
 
-fn check_samples(rt: HostRuntime, rows: &[Sample]) -> Result<(), Fail> {
-    let mut bytes = zeros(&rt)?;
+fn check_samples<R: Abort + AllocGlobal>(rt: &R, rows: &[Sample]) -> Result<(), Fail> {
+    let mut bytes = zeros(rt)?;
     let mut board = plain(&mut bytes);
     for row in rows {
         let seen = trial(&mut board, row.program, 1000)?;
         let bank = seen.state.processor.bank();
-        assert_eq!(
+        assert_eq!(rt;
             (seen.run.stop.number(), bank.get(row.register)),
             (2, row.value),
             "{}",
             row.name
         );
-        assert_eq!(listed(bank.flags), row.flags, "{}", row.name);
+        assert_eq!(rt; listed(bank.flags), row.flags, "{}", row.name);
     }
     Ok(())
 }
@@ -42,7 +43,7 @@ fn check_samples(rt: HostRuntime, rows: &[Sample]) -> Result<(), Fail> {
 #[test]
 fn logical_samples(rt: HostRuntime) -> Result<(), Fail> {
     check_samples(
-        rt,
+        &rt,
         &[
             Sample {
                 name: "ND",
@@ -95,7 +96,7 @@ fn logical_samples(rt: HostRuntime) -> Result<(), Fail> {
 #[test]
 fn sums_and_differences(rt: HostRuntime) -> Result<(), Fail> {
     check_samples(
-        rt,
+        &rt,
         &[
             Sample {
                 name: "AD 1",
@@ -233,7 +234,7 @@ fn sums_and_differences(rt: HostRuntime) -> Result<(), Fail> {
 #[test]
 fn other_registers(rt: HostRuntime) -> Result<(), Fail> {
     check_samples(
-        rt,
+        &rt,
         &[
             Sample {
                 name: "ADAB",
@@ -357,7 +358,7 @@ fn other_registers(rt: HostRuntime) -> Result<(), Fail> {
 #[test]
 fn pairs_stack_and_banks(rt: HostRuntime) -> Result<(), Fail> {
     check_samples(
-        rt,
+        &rt,
         &[
             Sample {
                 name: "LEM BC",
@@ -470,7 +471,7 @@ fn pairs_stack_and_banks(rt: HostRuntime) -> Result<(), Fail> {
 #[test]
 fn strings(rt: HostRuntime) -> Result<(), Fail> {
     check_samples(
-        rt,
+        &rt,
         &[
             // BT of 2 from 16 to 32 with A 1: 8 and 5; A and B stay, and the flags are those of 5 + 0
             Sample {
@@ -645,7 +646,7 @@ fn strings(rt: HostRuntime) -> Result<(), Fail> {
 #[test]
 fn the_stack_wraps(rt: HostRuntime) -> Result<(), Fail> {
     check_samples(
-        rt,
+        &rt,
         &[
             Sample {
                 name: "16 pops",

@@ -2,6 +2,7 @@
 use super::bench::{TABLE, plain, trial, watch, zeros};
 use engine::jobs::Engine;
 use model::job::Status;
+use std::process::Abort;
 use std::test::*;
 
 // A program, and the run's stop, steps and time with P after it.
@@ -25,18 +26,18 @@ fn status_by(stop: u8) -> Status {
     }
 }
 
-fn check_stops(rt: HostRuntime, rows: &[Stopped]) -> Result<(), Fail> {
-    let mut bytes = zeros(&rt)?;
+fn check_stops<R: Abort + AllocGlobal>(rt: &R, rows: &[Stopped]) -> Result<(), Fail> {
+    let mut bytes = zeros(rt)?;
     let mut board = plain(&mut bytes);
     for row in rows {
         let seen = trial(&mut board, row.program, row.limit)?;
-        assert_eq!(
+        assert_eq!(rt;
             (seen.run.stop.number(), seen.run.steps, seen.run.time),
             (row.stop, row.steps, row.time),
             "{}",
             row.name
         );
-        assert_eq!(
+        assert_eq!(rt;
             (seen.state.steps, seen.state.time, seen.state.processor.p),
             (row.steps as u32, row.time, row.p),
             "{}",
@@ -44,7 +45,7 @@ fn check_stops(rt: HostRuntime, rows: &[Stopped]) -> Result<(), Fail> {
         );
         // a system call has a receipt with its number, and nothing else has one
         let owed = if row.stop == 3 { 1 } else { 0 };
-        assert_eq!(
+        assert_eq!(rt;
             (seen.state.status, seen.owed, seen.state.calls),
             (status_by(row.stop), owed, owed),
             "{}",
@@ -58,7 +59,7 @@ fn check_stops(rt: HostRuntime, rows: &[Stopped]) -> Result<(), Fail> {
 #[test]
 fn limits_and_traps(rt: HostRuntime) -> Result<(), Fail> {
     check_stops(
-        rt,
+        &rt,
         &[
             Stopped {
                 name: "limit",
@@ -158,7 +159,7 @@ fn limits_and_traps(rt: HostRuntime) -> Result<(), Fail> {
 #[test]
 fn privileged(rt: HostRuntime) -> Result<(), Fail> {
     check_stops(
-        rt,
+        &rt,
         &[
             Stopped {
                 name: "INPUT",
@@ -258,7 +259,7 @@ fn privileged(rt: HostRuntime) -> Result<(), Fail> {
 #[test]
 fn no_access_and_no_writing(rt: HostRuntime) -> Result<(), Fail> {
     check_stops(
-        rt,
+        &rt,
         &[
             Stopped {
                 name: "fetch",
@@ -359,7 +360,7 @@ fn no_access_and_no_writing(rt: HostRuntime) -> Result<(), Fail> {
 #[test]
 fn not_carried(rt: HostRuntime) -> Result<(), Fail> {
     check_stops(
-        rt,
+        &rt,
         &[
             Stopped {
                 name: "005",

@@ -1,5 +1,6 @@
 // run5500: reads one image from standard input, runs it as job 0 over a zeroed single board, and prints one line.
 #![tactic(auto)]
+
 use boards::single::Filling;
 use image::enough;
 use launch::{Told, launch};
