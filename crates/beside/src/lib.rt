@@ -1,8 +1,6 @@
-// Jobs beside each other, engines beside each other, piles of layers, and the longest run. Nothing but tests.
+// Jobs beside each other, engines beside each other, and piles of layers. Nothing but tests.
 #![tactic(auto)]
 
-#[cfg(test)]
-mod longest;
 #[cfg(test)]
 mod piles;
 #[cfg(test)]
