@@ -1,5 +1,5 @@
 -- One turn of the block transfer, by what its element answered.
-use Rattle.std.proofs.Common.{◌≡◌, ℕ, zero, suc, ◌+◌, ◌*◌, ◌%◌, true, false, cond, eqb, Ok, Err, Result, sym, refl, ap, ◌∙◌}
+use Rattle.std.proofs.Common.{◌≡◌, ℕ, zero, suc, ◌+◌, ◌*◌, ◌%◌, true, false, eqb, Ok, Err, Result, sym, refl, ap, ◌∙◌}
 use Rattle.registers.specs.declared.bank.Bank.{Bank}
 use Rattle.stop.specs.declared.Fault.{Fault}
 use Rattle.registers.specs.declared.bank.Pair.TheVariants.{HL, DE}

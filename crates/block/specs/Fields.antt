@@ -1,11 +1,10 @@
 -- BFAC and BFSB: what their elements do to a bank and to the cells.
-use Rattle.std.specs.Prelude.{ℕ, zero, suc, ◌+◌, ◌%◌, Bool, cond, Ok, Err, Result, ◌==◌}
+use Rattle.std.specs.Prelude.{ℕ, zero, suc, ◌%◌, cond, Ok, Err, Result, ◌==◌}
 use Rattle.registers.specs.declared.bank.Bank.{Bank}
 use Rattle.registers.specs.declared.bank.Flags.{Flags}
 use Rattle.registers.specs.declared.bank.Pair.TheVariants.{HL, DE}
 use Rattle.registers.specs.Banks.{pair_in, with_flags}
 use Rattle.alu.specs.declared.Operation.{Operation}
-use Rattle.alu.specs.declared.Outcome.{Outcome}
 use Rattle.alu.specs.Operations.{result_of}
 use Rattle.space.specs.Cells.{Cells, read_of, allow_of, store_of}
 use Rattle.stop.specs.declared.Fault.{Fault}

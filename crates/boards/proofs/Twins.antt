@@ -1,9 +1,9 @@
 -- A byte written to the lower buffer of the twin board, and a fill of no bytes.
-use Rattle.std.proofs.Common.{◌≡◌, ℕ, ◌+◌, ◌-◌, ◌<◌, Bool, true, false, cond, not, ◌&&◌, ◌||◌, eqb, ltb, List, [], ◌∷◌, ◌++◌, length, get_or, set, sym, refl, ap, ◌∙◌, add-zero, arith, length-set}
+use Rattle.std.proofs.Common.{◌≡◌, ℕ, ◌+◌, ◌-◌, ◌<◌, Bool, true, false, cond, not, ◌&&◌, ◌||◌, eqb, ltb, List, [], ◌∷◌, length, get_or, set, sym, ap, ◌∙◌, add-zero, arith, length-set}
 use Rattle.std.proofs.lemmas.List.{take-append-drop}
-use Rattle.std.proofs.lemmas.Bool.{and_parts, eqb-true}
+use Rattle.std.proofs.lemmas.Bool.{and_parts}
 use Rattle.std.proofs.lemmas.Bool.Decides.{nat_tests}
-use Rattle.memory.specs.Memories.{Mem, put, stored, page_at, in_set}
+use Rattle.memory.specs.Memories.{put, stored, page_at, in_set}
 use Rattle.boards.specs.Fills.{placed}
 use Rattle.boards.specs.Twins.{twin_mem, twin_size, upper_page, both_right}
 use Rattle.boards.proofs.Boards.{set_put}

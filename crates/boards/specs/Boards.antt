@@ -1,5 +1,5 @@
 -- What a board means as a memory.
-use Rattle.std.specs.Prelude.{ℕ, Bool, true, false, cond, not, ◌&&◌, List, length, set, ◌==◌, slice_index, slice_set}
+use Rattle.std.specs.Prelude.{ℕ, cond, not, ◌&&◌, List, length, ◌==◌, slice_index, slice_set}
 use Rattle.memory.specs.Memories.{Mem, in_set, page_at}
 use Rattle.boards.specs.declared.single.SingleBoard.{SingleBoard}
 

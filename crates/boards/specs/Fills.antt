@@ -1,5 +1,5 @@
 -- What a fill answers, and the buffer after it.
-use Rattle.std.specs.Prelude.{ℕ, ◌+◌, ◌*◌, Bool, true, false, not, ◌&&◌, List, [], ◌∷◌, ◌++◌, length, take, drop, Some, None, Option, ◌==◌, nat_lt}
+use Rattle.std.specs.Prelude.{ℕ, ◌+◌, ◌*◌, Bool, not, ◌&&◌, List, [], ◌∷◌, ◌++◌, length, take, drop, None, ◌==◌, nat_lt}
 use Rattle.refusal.specs.declared.Ground.TheVariants.{WrongLength, OutOfRange, NoWrites}
 use Rattle.refusal.specs.Judging.{Judgement, when, at, first, picked, unless_refused}
 use Rattle.memory.specs.Memories.{in_set}

@@ -1,5 +1,5 @@
 -- What the twin board means as a memory.
-use Rattle.std.specs.Prelude.{ℕ, ◌-◌, Bool, true, false, cond, not, ◌&&◌, List, length, ◌==◌, nat_lt, slice_index}
+use Rattle.std.specs.Prelude.{ℕ, ◌-◌, Bool, cond, not, ◌&&◌, List, length, ◌==◌, nat_lt, slice_index}
 use Rattle.memory.specs.Memories.{Mem, in_set}
 use Rattle.boards.specs.declared.twin.TwinBoard.{TwinBoard}
 

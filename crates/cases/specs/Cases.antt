@@ -1,5 +1,5 @@
 -- Eleven worked cases, by the meanings themselves.
-use Rattle.std.specs.Prelude.{◌≡◌, ℕ, ◌+◌, ◌-◌, ◌*◌, ◌/◌, Bool, true, cond, List, [], ◌∷◌, replicate, Ok, Err, Result, ◌==◌, nat_le, slice_index}
+use Rattle.std.specs.Prelude.{◌≡◌, ℕ, ◌-◌, ◌/◌, true, cond, List, [], ◌∷◌, replicate, Ok, Err, Result, ◌==◌, nat_le, slice_index}
 use Rattle.stop.specs.declared.Fault.{Fault}
 use Rattle.stop.specs.declared.Stop.TheVariants.{Faulted}
 use Rattle.stop.specs.Stops.{number_of}
@@ -7,7 +7,6 @@ use Rattle.memory.specs.Memories.{Mem}
 use Rattle.space.specs.Cells.{read_of, allow_of}
 use Rattle.registers.specs.declared.bank.Bank.{Bank}
 use Rattle.registers.specs.declared.bank.Pair.TheVariants.{HL, DE}
-use Rattle.registers.specs.declared.processor.Processor.{Processor}
 use Rattle.registers.specs.Banks.{pair_in}
 use Rattle.registers.specs.Processors.{no_flags, no_bank, reset_at, bank_of, with_bank}
 use Rattle.table.specs.Tables.{physical, cells_by}

@@ -1,10 +1,10 @@
 -- What the console's answers mean, in the model's words.
-use Rattle.std.specs.Prelude.{◌≡◌, ℕ, Ok, Err, vec_items, vec_len, Result}
+use Rattle.std.specs.Prelude.{◌≡◌, Ok, Err, vec_items, vec_len, Result}
 use Rattle.refusal.specs.Judging.{Judgement}
 use Rattle.model.specs.Calls.{opens, asks, loads, runs, replies, abandons, looks, states, closes, refused, done, ran, saw, told}
 use Rattle.model.specs.Calls as model
 use Rattle.model.specs.Acts.{judge_receipt}
-use Rattle.model.specs.Worlds.{World, Done as After, does}
+use Rattle.model.specs.Worlds.{World, does}
 use Rattle.script.specs.declared.commands.Call.{Call}
 use Rattle.script.specs.declared.commands.Call.TheVariants.{Open, Load, Run, Reply, Abandon, Look, State, Close}
 use Rattle.script.specs.declared.faults.Fault.TheVariants.{NoSuchReceipt}

@@ -1,5 +1,5 @@
 -- How many bytes an instruction has, without a selecting byte before it.
-use Rattle.std.specs.Prelude.{ℕ, ◌/◌, Bool, cond, T, List, Some, None, Ok, Err, Option, Result, ◌==◌, nat_eq, slice_index}
+use Rattle.std.specs.Prelude.{ℕ, ◌/◌, cond, T, List, Some, None, Ok, Err, Option, Result, ◌==◌, nat_eq, slice_index}
 use Rattle.stop.specs.declared.Fault.{Fault}
 use Rattle.stop.specs.declared.Fault.TheVariants.{Privileged, NoAccess, NoWriting, NotCarried}
 use Rattle.decode.specs.declared.instruction.Source.TheVariants as from

@@ -1,5 +1,5 @@
 -- The instruction of each op code, by its three octal digits: the top one, d and l.
-use Rattle.std.specs.Prelude.{ℕ, ◌/◌, ◌%◌, Bool, true, false, cond, ◌&&◌, ◌||◌, Some, None, Ok, Err, Option, Result, ◌==◌, nat_le, nat_lt}
+use Rattle.std.specs.Prelude.{ℕ, ◌/◌, ◌%◌, Bool, cond, ◌&&◌, ◌||◌, Some, None, Ok, Err, Option, Result, ◌==◌, nat_le, nat_lt}
 use Rattle.registers.specs.declared.bank.Pair.{Pair}
 use Rattle.alu.specs.declared.Shift.TheVariants.{LeftCircular, RightCircular, RightExtended}
 use Rattle.stop.specs.declared.Fault.{Fault}

@@ -17,7 +17,7 @@ use Rattle.model.specs.declared.job.Status.TheVariants.{Closed, Ready, Waiting, 
 use Rattle.model.specs.Jobs.{closed_job, opened_job, is_open, is_waiting, status_after, ran_job}
 use Rattle.model.specs.Calls.{opens, asks, Ask, runs, abandons, closes, Owed, Answer, refused, done, ran}
 use Rattle.model.specs.Acts.{no_such_job, not_open, waits, owed_by, ran_left, judge_ask, judge_run, judge_close, judge_receipt, effect_of}
-use Rattle.model.specs.Worlds.{World, Done, jobs_of, no_job, space_at, upd, settle, judge_open, opened, unless_open, does}
+use Rattle.model.specs.Worlds.{World, Done, jobs_of, no_job, space_at, upd, settle, judge_open, unless_open, does}
 use Rattle.model.proofs.Settling.{upd_same, refuses, accepts}
 use Rattle.engine.specs.declared.receipt.Receipt.{Receipt}
 use Rattle.engine.specs.Answers.{owed_of}

@@ -1,9 +1,8 @@
 -- What an accepted or refused judgement says.
-use Rattle.std.proofs.Common.{◌≡◌, ℕ, ◌+◌, ◌<◌, ◌≤◌, Bool, true, false, ltb, Ok, Err, Result, sym, refl, ap, ◌∙◌, arith}
+use Rattle.std.proofs.Common.{◌≡◌, ℕ, ◌+◌, ◌<◌, ◌≤◌, ltb, Ok, Err, Result, sym, refl, ap, arith}
 use Rattle.std.proofs.lemmas.Bool.{ltb-false}
-use Rattle.refusal.specs.declared.Ground.{Ground}
 use Rattle.refusal.specs.declared.Refusal.{Refusal}
-use Rattle.refusal.specs.Judging.{Judgement, when, also, first}
+use Rattle.refusal.specs.Judging.{Judgement, also}
 use Rattle.model.specs.declared.job.Job.{Job}
 use Rattle.model.specs.Acts.{no_such_job, not_open, waits, ended, too_many, judge_run}
 use Rattle.engine.specs.Judges.{or_refused}

@@ -1,13 +1,12 @@
 -- A load, by what the code of it answered and left.
-use Rattle.std.proofs.Common.{◌≡◌, ℕ, List, Ok, Err, Result, sym, refl, ap, ◌∙◌, subst}
-use Rattle.refusal.specs.declared.Refusal.{Refusal}
+use Rattle.std.proofs.Common.{◌≡◌, ℕ, List, Ok, Err, sym, refl, ap, ◌∙◌}
 use Rattle.refusal.specs.Judging.{Judgement, also, unless_refused}
 use Rattle.memory.specs.Memories.{Mem}
 use Rattle.pages.specs.Held.{Table, shown, bytes_of, back}
 use Rattle.pages.specs.Loads.{judge_load, laid, loaded_mem}
-use Rattle.model.specs.Calls.{asks, loads, Answer, done, refused}
+use Rattle.model.specs.Calls.{asks, loads, done, refused}
 use Rattle.model.specs.Acts.{no_such_job, not_open, judge_open_job, judge_ask, effect_of}
-use Rattle.model.specs.Worlds.{World, Done, space_at, settle, does}
+use Rattle.model.specs.Worlds.{World, Done, space_at, does}
 use Rattle.model.proofs.Settling.{upd_self, settles, refuses, accepts}
 use Rattle.engine.specs.Answers.{done_answer}
 use Rattle.engine.proofs.Judged.{goes_on, alone}

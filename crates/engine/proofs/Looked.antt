@@ -1,11 +1,9 @@
 -- A look, by what the code of it answered and left in the buffer.
-use Rattle.std.proofs.Common.{◌≡◌, ℕ, List, length, IfErr, Ok, Err, Result, sym, refl, ap, ◌∙◌}
-use Rattle.refusal.specs.declared.Refusal.{Refusal}
+use Rattle.std.proofs.Common.{◌≡◌, ℕ, List, length, IfErr, Ok, Err, sym, ap, ◌∙◌}
 use Rattle.refusal.specs.Judging.{Judgement, also, unless_refused}
-use Rattle.space.specs.Cells.{Cells}
 use Rattle.pages.specs.Held.{Table, shown}
 use Rattle.pages.specs.Looks.{judge_look, seen}
-use Rattle.model.specs.Calls.{asks, looks, saw, refused}
+use Rattle.model.specs.Calls.{asks, looks, saw}
 use Rattle.model.specs.Acts.{no_such_job, not_open, judge_open_job, judge_ask}
 use Rattle.model.specs.Worlds.{World, Done, space_at, does}
 use Rattle.model.proofs.Settling.{refuses, accepts, settles_answer}

@@ -1,5 +1,5 @@
 -- A job's record, once the grounds of a call are judged.
-use Rattle.std.specs.Prelude.{◌≡◌, ℕ, Ok, Err, Result}
+use Rattle.std.specs.Prelude.{Ok, Err, Result}
 use Rattle.refusal.specs.declared.Refusal.{Refusal}
 use Rattle.refusal.specs.Judging.{Judgement}
 use Rattle.model.specs.declared.job.Job.{Job}

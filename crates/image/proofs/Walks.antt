@@ -1,5 +1,5 @@
 -- A walk over the blocks: its fuel, one step of it, and that it tiles the file.
-use Rattle.std.proofs.Common.{◌≡◌, ℕ, zero, suc, ◌+◌, ◌-◌, ◌*◌, ◌<◌, ◌≤◌, Bool, true, false, cond, leb, List, [], ◌∷◌, length, take, drop, Some, None, sym, refl, ap, ◌∙◌, subst, ap₂, arith, length-drop, length-take}
+use Rattle.std.proofs.Common.{◌≡◌, ℕ, zero, suc, ◌+◌, ◌<◌, ◌≤◌, Bool, true, false, cond, List, [], ◌∷◌, length, take, drop, Some, None, sym, refl, ap, ◌∙◌, subst, ap₂, arith, length-drop, length-take}
 use Rattle.std.proofs.lemmas.Bool.{leb-true, lt-leb}
 use Rattle.image.specs.Files.{BlockOf, Walk, word, block_at, past, complete, before, walked, blocks_from, blocks_end}
 use Rattle.image.specs.Laws.{Tiles}

@@ -1,5 +1,5 @@
 -- What a run's answer says of the job: it is open, and what it owes can be abandoned.
-use Rattle.std.proofs.Common.{◌≡◌, ℕ, ◌<◌, ◌≤◌, Bool, true, false, not, ◌&&◌, eqb, Some, None, Ok, Err, Option, Result, sym, refl, ap, ◌∙◌, subst, arith, eq-eqb}
+use Rattle.std.proofs.Common.{◌≡◌, ℕ, ◌<◌, ◌≤◌, true, false, not, ◌&&◌, eqb, Some, None, Ok, Err, Option, sym, refl, ap, ◌∙◌, subst, arith, eq-eqb}
 use Rattle.std.proofs.lemmas.Bool.{le-ltb}
 use Rattle.refusal.specs.declared.Refusal.{Refusal}
 use Rattle.refusal.specs.declared.Ground.TheVariants.{NoSuchJob, NotOpen, NotOwed}
@@ -17,7 +17,7 @@ use Rattle.model.specs.declared.job.Status.{Status}
 use Rattle.model.specs.declared.job.Status.TheVariants.{Waiting}
 use Rattle.model.specs.Jobs.{closed_job, is_open, is_waiting, status_after, ran_job, state_of}
 use Rattle.model.specs.Calls.{asks, runs, states, abandons, Owed, Answer, refused, done, ran, saw, told}
-use Rattle.model.specs.Acts.{no_such_job, not_open, not_owed, owed_by, ran_left, judge_ask, judge_open_job, judge_receipt}
+use Rattle.model.specs.Acts.{not_open, not_owed, owed_by, ran_left, judge_ask, judge_open_job, judge_receipt}
 use Rattle.model.specs.Worlds.{World, Done, space_at, upd, settle, does}
 use Rattle.model.proofs.Settling.{upd_same, refuses, accepts, settles_record, settles_answer}
 use Rattle.engine.proofs.Judged.{seated}

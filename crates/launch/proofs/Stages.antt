@@ -1,13 +1,12 @@
 -- The stages of a launch, one after the other.
-use Rattle.std.proofs.Common.{◌≡◌, ℕ, List, [], ◌∷◌, Ok, Err, Option, Result, sym, refl, ap, ◌∙◌}
+use Rattle.std.proofs.Common.{◌≡◌, ℕ, List, [], ◌∷◌, Ok, Err, Option, Result, sym, ap, ◌∙◌}
 use Rattle.refusal.specs.declared.Refusal.{Refusal}
 use Rattle.memory.specs.Memories.{Mem}
 use Rattle.runs.specs.declared.Ran.{Ran}
 use Rattle.image.specs.Files.{BlockOf, Parsed, image_of}
-use Rattle.model.specs.Calls.{asks, opens, loads, runs, Owed, Answer, refused, done, ran}
+use Rattle.model.specs.Calls.{asks, opens, loads, runs, Owed, refused, done, ran}
 use Rattle.model.specs.Worlds.{World, Done, new_world, does}
-use Rattle.launch.specs.declared.Figure.{Figure}
-use Rattle.launch.specs.Launches.{Loaded, loaded_by, after_load, loads_all, Launched, launched_by, settled_by, figure_of, after_run, runs_loaded, after_open, on_image, launch_of}
+use Rattle.launch.specs.Launches.{loaded_by, after_load, loads_all, launched_by, settled_by, figure_of, after_run, runs_loaded, after_open, on_image, launch_of}
 
 -- A block more, the block that is refused, and no block more.
 module _ (whole : List BlockOf) (w : World) where

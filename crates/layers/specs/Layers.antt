@@ -1,5 +1,5 @@
 -- What a layer means as a memory, by the memory below it.
-use Rattle.std.specs.Prelude.{Bool, true, false, cond, not, ◌&&◌, List, ℕ, ◌%◌, eqb, length, get_or}
+use Rattle.std.specs.Prelude.{cond, not, ◌&&◌, List, ℕ, ◌%◌, eqb, length, get_or}
 use Rattle.memory.specs.Memories.{Mem, page_at, in_set, stored}
 
 -- The byte that a ROM shows at an address of its page: its own, or 0 where it has not 4,096 bytes.

@@ -1,9 +1,9 @@
 -- A run and a closing of a job that waits are refused, and the reply to it is not.
-use Rattle.std.proofs.Common.{◌≡◌, ℕ, Bool, true, false, not, Some, None, Ok, Err, Option, sym, refl, ap, ◌∙◌, arith}
+use Rattle.std.proofs.Common.{◌≡◌, ℕ, not, Some, None, Ok, Err, Option, sym, refl, ap, ◌∙◌, arith}
 use Rattle.refusal.specs.declared.Refusal.{Refusal}
 use Rattle.refusal.specs.declared.Ground.TheVariants.{NotOpen, JobWaiting, JobEnded}
 use Rattle.refusal.specs.Grounds.{refusal_of}
-use Rattle.refusal.specs.Judging.{Judgement, when, also}
+use Rattle.refusal.specs.Judging.{when, also}
 use Rattle.stop.specs.declared.Trap.{Trap}
 use Rattle.stop.specs.declared.Trap.TheVariants.{Halt, SystemCall, Breakpoint}
 use Rattle.stop.specs.declared.Stop.{Stop}

@@ -1,9 +1,9 @@
 -- A set with one page more.
-use Rattle.std.proofs.Common.{◌≡◌, ℕ, zero, suc, ◌+◌, ◌-◌, ◌*◌, ◌/◌, ◌%◌, ◌^◌, ◌<◌, Bool, true, false, cond, ◌||◌, eqb, ◌⊎◌, sym, refl, ap, ◌∙◌, ap₂, ⊎_elim, one-mul, arith}
+use Rattle.std.proofs.Common.{◌≡◌, ℕ, zero, suc, ◌+◌, ◌-◌, ◌*◌, ◌/◌, ◌%◌, ◌^◌, ◌<◌, Bool, true, false, cond, ◌||◌, eqb, sym, refl, ap, ◌∙◌, ⊎_elim, one-mul, arith}
 use native.Mathlib.Nat.{div-eq_of_lt}
-use lib.Bits.{bit_and, bit_or}
+use lib.Bits.{bit_or}
 use Rattle.std.proofs.lemmas.Bool.{cases_order, eq-eqb, ne_eqb}
-use Rattle.std.proofs.lemmas.Nat.{pow_pos, pow-add, pow_below, shl-shr, or_shr, or_mod, and_mask, one_shl}
+use Rattle.std.proofs.lemmas.Nat.{pow-add, pow_below, shl-shr, or_shr, or_mod, and_mask, one_shl}
 use Rattle.memory.specs.Memories.{in_set}
 
 -- The bit of a page in a mask.

@@ -1,5 +1,5 @@
 -- What a memory means: the byte at each address, and the pages that take writes.
-use Rattle.std.specs.Prelude.{ℕ, ◌/◌, ◌^◌, Bool, true, false, cond, ◌&&◌, Ok, Err, Result, ◌==◌, bit_and, nat_lt}
+use Rattle.std.specs.Prelude.{ℕ, ◌/◌, ◌^◌, Bool, cond, Ok, Err, Result, ◌==◌, bit_and, nat_lt}
 use Rattle.refusal.specs.declared.Refusal.{Refusal}
 use Rattle.refusal.specs.declared.Ground.TheVariants.{OutOfRange, NoWrites}
 use Rattle.refusal.specs.Grounds.{refusal_of}

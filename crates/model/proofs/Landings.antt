@@ -1,9 +1,9 @@
 -- What a run did to memory is its space written back.
-use Rattle.std.proofs.Common.{◌≡◌, ℕ, zero, suc, ◌+◌, ◌*◌, ◌/◌, ◌%◌, ◌<◌, Bool, true, false, cond, ◌&&◌, ◌||◌, eqb, Option, sym, refl, ap, ◌∙◌, subst, ap₂, arith, eqb-true}
+use Rattle.std.proofs.Common.{◌≡◌, ℕ, zero, suc, ◌+◌, ◌*◌, ◌/◌, ◌%◌, ◌<◌, Bool, true, false, cond, ◌&&◌, ◌||◌, eqb, Option, sym, refl, ap, ◌∙◌, subst, arith, eqb-true}
 use Rattle.memory.specs.Memories.{Mem}
 use Rattle.space.specs.Cells.{Cells, Frame}
 use Rattle.registers.specs.declared.processor.Processor.{Processor}
-use Rattle.table.specs.Tables.{entry_of, access_in, writing_in, page_in, cells_by, writes, frame_by}
+use Rattle.table.specs.Tables.{entry_of, access_in, writing_in, cells_by, writes, frame_by}
 use Rattle.runs.specs.declared.Ran.{Ran}
 use Rattle.runs.specs.Runs.{Over, ran as over, run_of}
 use Rattle.pages.specs.Held.{Table, page_of, shown, bytes_of, holds, back_byte, back}
@@ -11,9 +11,9 @@ use Rattle.pages.proofs.Truths.{clash, and_left, and_right, both, not_so}
 use Rattle.pages.proofs.Spaces.{At, named_at, shown_at, lands}
 use Rattle.model.specs.declared.job.Job.{Job}
 use Rattle.model.specs.Jobs.{ran_job}
-use Rattle.model.specs.Calls.{Owed, Answer, ran}
-use Rattle.model.specs.Acts.{Left, owed_by, ran_left}
-use Rattle.model.specs.Worlds.{World, Done, space_at, upd, settle}
+use Rattle.model.specs.Calls.{Owed, ran}
+use Rattle.model.specs.Acts.{owed_by, ran_left}
+use Rattle.model.specs.Worlds.{World, space_at, upd, settle}
 use Rattle.model.proofs.Settling.{settles}
 
 -- A page that a table lets its job write, by its sector.

@@ -1,15 +1,14 @@
 -- How an act settles in a world.
-use Rattle.std.proofs.Common.{◌≡◌, ℕ, Bool, true, false, cond, eqb, ◌≢◌, Ok, Err, Result, sym, refl, ap, ◌∙◌, arith, eq-eqb, ne_eqb, eqb-true}
+use Rattle.std.proofs.Common.{◌≡◌, ℕ, Bool, true, false, cond, eqb, ◌≢◌, Ok, Err, sym, refl, ap, ◌∙◌, eq-eqb, ne_eqb, eqb-true}
 use mathlib.Core.Path.{fun_ext}
 use Rattle.refusal.specs.declared.Refusal.{Refusal}
-use Rattle.refusal.specs.Judging.{Judgement}
 use Rattle.memory.specs.Memories.{Mem}
 use Rattle.pages.specs.Held.{back}
 use Rattle.pages.proofs.Spaces.{back_same}
 use Rattle.model.specs.declared.job.Job.{Job}
 use Rattle.model.specs.Calls.{Ask, Answer, refused, asks}
-use Rattle.model.specs.Acts.{Left, says, unless, judge_ask, effect_of, act_of}
-use Rattle.model.specs.Worlds.{World, Done, space_at, upd, settle, does}
+use Rattle.model.specs.Acts.{Left, says, unless, judge_ask, effect_of}
+use Rattle.model.specs.Worlds.{World, space_at, upd, settle, does}
 
 pub upd_self : (f : ℕ → Job) (j : ℕ) → upd f j (f j) ≡ f
 upd_self f j = fun_ext (λ k. go k (eqb k j) refl)

@@ -1,5 +1,5 @@
 -- Tables that name no page twice, and the loop over the jobs.
-use Rattle.std.proofs.Common.{◌≡◌, ℕ, zero, suc, ◌+◌, ◌<◌, Bool, true, false, not, ◌&&◌, ◌||◌, eqb, replicate, is_some, Some, None, Option, sym, refl, ap, ◌∙◌, add-one, arith}
+use Rattle.std.proofs.Common.{◌≡◌, ℕ, ◌+◌, ◌<◌, Bool, true, false, not, ◌&&◌, ◌||◌, eqb, is_some, Some, None, Option, sym, refl, add-one, arith}
 use Rattle.refusal.specs.Judging.{first_from}
 use Rattle.refusal.proofs.Searches.{none_passes}
 use Rattle.table.specs.Tables.{Apart, entry_of, access_in}

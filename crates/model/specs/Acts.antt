@@ -1,13 +1,12 @@
 -- What a call does to the job that it names: an act depends on the job's record and space alone.
-use Rattle.std.specs.Prelude.{ℕ, ◌+◌, Bool, true, false, not, ◌&&◌, ◌||◌, List, [], ◌∷◌, Some, None, Ok, Err, Option, ◌==◌, nat_lt}
+use Rattle.std.specs.Prelude.{ℕ, ◌+◌, not, ◌&&◌, [], ◌∷◌, Some, None, Ok, Err, Option, ◌==◌, nat_lt}
 use Rattle.refusal.specs.declared.Ground.TheVariants.{NoSuchJob, NotOpen, JobWaiting, JobEnded, TooManySteps, NotOwed}
-use Rattle.refusal.specs.Judging.{Judgement, when, also, first}
+use Rattle.refusal.specs.Judging.{Judgement, when, first}
 use Rattle.stop.specs.declared.Trap.{Trap}
 use Rattle.stop.specs.declared.Trap.TheVariants.{Halt, SystemCall, Breakpoint}
 use Rattle.stop.specs.declared.Stop.{Stop}
 use Rattle.stop.specs.declared.Stop.TheVariants.{Limit, Trapped, Faulted}
 use Rattle.space.specs.Cells.{Cells}
-use Rattle.runs.specs.declared.Ran.{Ran}
 use Rattle.runs.specs.Runs.{Over, run_of}
 use Rattle.pages.specs.Held.{bytes_of}
 use Rattle.pages.specs.Loads.{judge_load, laid}

@@ -1,5 +1,5 @@
 -- A job's record.
-use Rattle.std.specs.Prelude.{◌≡◌, ℕ, ◌+◌, Bool, true, false, List, [], ◌∷◌, replicate, slice_index_or}
+use Rattle.std.specs.Prelude.{ℕ, ◌+◌, Bool, true, false, [], ◌∷◌, replicate, slice_index_or}
 use Rattle.registers.specs.declared.processor.Processor.{Processor}
 use Rattle.registers.specs.declared.bank.Bank.{Bank}
 use Rattle.registers.specs.Processors.{reset_at, bank_of, with_bank}

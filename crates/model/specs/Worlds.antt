@@ -1,5 +1,5 @@
 -- What a call does to an engine and to the memory that it is lent.
-use Rattle.std.specs.Prelude.{ℕ, zero, suc, Bool, true, false, cond, not, ◌&&◌, ◌||◌, List, [], ◌∷◌, replicate, is_some, Ok, Err, ◌==◌, slice_index_or}
+use Rattle.std.specs.Prelude.{ℕ, zero, suc, Bool, false, cond, not, ◌&&◌, ◌||◌, List, [], ◌∷◌, replicate, is_some, Ok, Err, ◌==◌, slice_index_or}
 use Rattle.refusal.specs.declared.Ground.TheVariants.{AlreadyOpen, ReservedBits, PageNamedTwice, PageNotWritable, PageHeld}
 use Rattle.refusal.specs.Judging.{Judgement, when, at, first, first_from}
 use Rattle.memory.specs.Memories.{Mem}

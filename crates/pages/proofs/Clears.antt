@@ -1,9 +1,9 @@
 -- Loops over a table, a turn at a time, and pages that are put to 0.
-use Rattle.std.proofs.Common.{◌≡◌, ℕ, zero, suc, ◌+◌, ◌*◌, ◌/◌, ◌%◌, ◌<◌, Bool, true, false, cond, ◌&&◌, ◌||◌, eqb, ltb, sym, refl, ap, ◌∙◌, ap₂, add-one, arith}
+use Rattle.std.proofs.Common.{◌≡◌, ℕ, ◌+◌, ◌*◌, ◌/◌, ◌%◌, ◌<◌, Bool, true, false, cond, ◌&&◌, ◌||◌, eqb, sym, refl, ap, ◌∙◌, ap₂, add-one, arith}
 use mathlib.Core.Path.{fun_ext}
 use Rattle.memory.specs.Memories.{Mem, put}
 use Rattle.table.specs.Tables.{entry_of, access_in, page_in}
-use Rattle.pages.specs.Held.{Table, page_of, Where, nowhere, sector, finds, is_there, named, holds, pick, back_byte, back, zeroed, zeroed_page}
+use Rattle.pages.specs.Held.{Table, page_of, Where, nowhere, sector, finds, is_there, named, pick, back_byte, zeroed, zeroed_page}
 
 -- A memory with other bytes.
 abbrev pub with_bytes : Mem → (ℕ → ℕ) → Mem

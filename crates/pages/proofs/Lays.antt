@@ -1,17 +1,15 @@
 -- A load, a byte at a time.
-use Rattle.std.proofs.Common.{◌≡◌, ℕ, ◌+◌, ◌-◌, ◌*◌, ◌/◌, ◌%◌, ◌<◌, ◌≤◌, Bool, true, false, cond, not, ◌&&◌, eqb, ltb, leb, List, length, get_or, Some, None, Ok, Err, Option, Result, sym, refl, ap, ◌∙◌, arith, eq-eqb, ne_eqb, eqb-true}
+use Rattle.std.proofs.Common.{◌≡◌, ℕ, ◌+◌, ◌-◌, ◌*◌, ◌/◌, ◌%◌, ◌<◌, ◌≤◌, Bool, true, false, cond, ◌&&◌, eqb, ltb, leb, List, length, get_or, None, Ok, sym, refl, ap, ◌∙◌, arith, eq-eqb, ne_eqb, eqb-true}
 use mathlib.Core.Path.{fun_ext}
 use borrow.Author.Tests.{eqb-false}
 use Rattle.std.proofs.lemmas.Bool.{not-false, ltb-false}
 use Rattle.std.proofs.lemmas.Bool.Decides.{nat_tests}
-use Rattle.refusal.specs.declared.Ground.{Ground}
 use Rattle.refusal.specs.declared.Ground.TheVariants.{OutOfRange, NoAccess, NoWrites}
-use Rattle.refusal.specs.declared.Refusal.{Refusal}
-use Rattle.refusal.specs.Judging.{Judgement, at, also, picked, first_from}
+use Rattle.refusal.specs.Judging.{at, picked, first_from}
 use Rattle.refusal.proofs.Searches.{none_passes}
 use Rattle.memory.specs.Memories.{Mem, put}
 use Rattle.space.specs.Cells.{Cells}
-use Rattle.table.specs.Tables.{Apart, entry_of, access_in, page_in, physical}
+use Rattle.table.specs.Tables.{Apart, entry_of, access_in, physical}
 use Rattle.table.proofs.Places.{one_place}
 use Rattle.pages.specs.Held.{Table, page_of, shown, bytes_of, holds, back, back_byte}
 use Rattle.pages.specs.Entries.{shut_at, refuses_at}

@@ -1,10 +1,10 @@
 -- The algebra of a space that is written back.
-use Rattle.std.proofs.Common.{◌≡◌, ℕ, zero, suc, ◌+◌, ◌*◌, ◌/◌, ◌%◌, ◌<◌, Bool, true, false, cond, ◌&&◌, eqb, ltb, ◌≢◌, sym, refl, ap, ◌∙◌, subst, ap₂, arith, eq-eqb, eqb-true}
+use Rattle.std.proofs.Common.{◌≡◌, ℕ, zero, suc, ◌+◌, ◌*◌, ◌/◌, ◌%◌, ◌<◌, Bool, true, false, cond, ◌&&◌, eqb, ◌≢◌, sym, refl, ap, ◌∙◌, arith, eq-eqb, eqb-true}
 use mathlib.Core.Path.{fun_ext}
 use borrow.Author.Tests.{eqb-false}
 use Rattle.memory.specs.Memories.{Mem}
-use Rattle.space.specs.Cells.{Cell, Cells}
-use Rattle.table.specs.Tables.{Apart, entry_of, access_in, writing_in, page_in, physical, cells_by}
+use Rattle.space.specs.Cells.{Cell}
+use Rattle.table.specs.Tables.{Apart, entry_of, access_in, physical}
 use Rattle.pages.specs.Held.{Table, page_of, bytes_of, shown, Where, nowhere, sector, finds, is_there, named, holds, pick, back_byte, back, clip}
 use Rattle.pages.proofs.Truths.{clash, and_left, and_right, both, by_test}
 

@@ -1,5 +1,5 @@
 -- The tests of a table that an opening makes, sector by sector, and those of a job's addresses.
-use Rattle.std.specs.Prelude.{ℕ, ◌/◌, Bool, not, ◌&&◌}
+use Rattle.std.specs.Prelude.{ℕ, Bool, not, ◌&&◌}
 use Rattle.space.specs.Cells.{Cells}
 use Rattle.table.specs.Tables.{entry_of, reserved_in, access_in, writing_in}
 use Rattle.pages.specs.Held.{Table, page_of, named}

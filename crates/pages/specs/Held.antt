@@ -1,5 +1,5 @@
 -- The pages that a job holds, and how its space is written back to memory.
-use Rattle.std.specs.Prelude.{◌≡◌, ℕ, zero, suc, ◌+◌, ◌*◌, ◌/◌, ◌%◌, Bool, true, false, cond, ◌&&◌, List, ◌==◌, nat_lt}
+use Rattle.std.specs.Prelude.{ℕ, zero, suc, ◌+◌, ◌*◌, ◌/◌, ◌%◌, Bool, true, false, cond, ◌&&◌, List, ◌==◌, nat_lt}
 use Rattle.memory.specs.Memories.{Mem}
 use Rattle.space.specs.Cells.{Cell, Cells}
 use Rattle.table.specs.Tables.{entry_of, access_in, page_in, cells_by}

@@ -1,5 +1,5 @@
 -- What a load refuses, and the memory that it leaves.
-use Rattle.std.specs.Prelude.{ℕ, ◌+◌, ◌-◌, Bool, cond, ◌&&◌, List, [], ◌∷◌, length, None, Option, nat_le, nat_lt, slice_index}
+use Rattle.std.specs.Prelude.{ℕ, ◌+◌, ◌-◌, cond, ◌&&◌, List, [], ◌∷◌, length, None, Option, nat_le, nat_lt, slice_index}
 use Rattle.refusal.specs.declared.Ground.TheVariants.{OutOfRange, NoAccess, NoWrites}
 use Rattle.refusal.specs.Judging.{Judgement, at, first, unless_refused, picked, first_from}
 use Rattle.memory.specs.Memories.{Mem}

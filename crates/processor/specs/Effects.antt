@@ -1,5 +1,5 @@
 -- What an instruction does to the processor and the cells once its bytes are fetched.
-use Rattle.std.specs.Prelude.{ℕ, ◌+◌, ◌*◌, ◌%◌, Bool, true, false, Some, None, Ok, Err, Option, Result, ◌==◌}
+use Rattle.std.specs.Prelude.{ℕ, ◌%◌, Bool, true, false, Some, None, Ok, Err, Result, ◌==◌}
 use Rattle.registers.specs.declared.bank.Bank.{Bank}
 use Rattle.registers.specs.declared.bank.Register.{Register}
 use Rattle.registers.specs.declared.bank.Pair.{Pair}

@@ -1,5 +1,5 @@
 -- A job's answers are a function of its record, its space and the calls that name it.
-use Rattle.std.proofs.Common.{◌≡◌, ℕ, Bool, true, false, cond, not, ◌&&◌, eqb, List, [], ◌∷◌, map, Ok, Err, sym, refl, ap, ◌∙◌, subst, arith, eqb-true}
+use Rattle.std.proofs.Common.{◌≡◌, ℕ, Bool, true, false, cond, not, ◌&&◌, eqb, List, [], ◌∷◌, Ok, Err, sym, refl, ap, ◌∙◌, subst, arith, eqb-true}
 use borrow.Author.Tests.{eqb-false, not-true}
 use Rattle.refusal.specs.declared.Ground.TheVariants.{AlreadyOpen}
 use Rattle.refusal.specs.declared.Refusal.{Refusal}
@@ -21,7 +21,7 @@ use Rattle.protection.specs.Histories.{after, Said, calls_to, said_to, upto_end,
 use Rattle.protection.specs.Protection.{SameOpening, SameJob, MadeByOwn, all_calls, calls_to_end}
 use Rattle.protection.proofs.Asides.{shown_tells, begins}
 use Rattle.protection.proofs.Lawful.{Law, act_law}
-use Rattle.protection.proofs.Invariant.{Inv, inv_does, inv_new, inv_after, Leaves, call_leaves, Opens, open_all}
+use Rattle.protection.proofs.Invariant.{Inv, inv_does, inv_new, inv_after, Leaves, call_leaves, open_all}
 
 -- What a call does to its job once that is open: an opening is refused then.
 abbrev refused_opening : ℕ → Judgement

@@ -6,7 +6,7 @@ use Rattle.space.specs.Cells.{Cell, Cells}
 use Rattle.table.specs.Tables.{Apart, entry_of, access_in, writing_in, physical}
 use Rattle.pages.specs.Held.{Table, page_of, bytes_of, shown, holds, back_byte, back, clip}
 use Rattle.pages.proofs.Truths.{clash}
-use Rattle.pages.proofs.Spaces.{At, named_some, holds_at, place_page, back_all, shown_same, local, shown_at}
+use Rattle.pages.proofs.Spaces.{named_some, holds_at, place_page, back_all, shown_same, local, shown_at}
 
 -- A page that both have access to takes no writes.
 abbrev pub Aside : Mem → Table → Table → Type 0

@@ -1,24 +1,22 @@
 -- No call alters a byte that its job has no right to.
-use Rattle.std.proofs.Common.{◌≡◌, ℕ, ◌+◌, ◌*◌, ◌/◌, ◌%◌, Bool, true, false, ◌&&◌, ◌≢◌, Ok, Err, sym, refl, ap, ◌∙◌}
-use Rattle.refusal.specs.declared.Refusal.{Refusal}
+use Rattle.std.proofs.Common.{◌≡◌, ℕ, ◌+◌, ◌*◌, ◌/◌, ◌%◌, Bool, true, false, ◌&&◌, Ok, Err, sym, refl, ap, ◌∙◌}
 use Rattle.refusal.specs.Judging.{Judgement}
 use Rattle.memory.specs.Memories.{Mem}
-use Rattle.space.specs.Cells.{Cells}
 use Rattle.registers.specs.declared.processor.Processor.{Processor}
 use Rattle.table.specs.Tables.{entry_of, access_in, writing_in, page_in, writes}
 use Rattle.table.proofs.Places.{named}
-use Rattle.runs.specs.Runs.{Over, run_of}
+use Rattle.runs.specs.Runs.{run_of}
 use Rattle.runs.proofs.Kept.{run_quiet}
-use Rattle.pages.specs.Held.{Table, page_of, shown, bytes_of, holds}
+use Rattle.pages.specs.Held.{Table, shown, bytes_of}
 use Rattle.pages.proofs.Truths.{clash, and_left, and_right, both, not_so}
 use Rattle.pages.proofs.Spaces.{At, in_sector, shown_at, back_all, back_else}
 use Rattle.model.specs.declared.job.Job.{Job}
 use Rattle.model.specs.Jobs.{opened_job}
-use Rattle.model.specs.Calls.{Call, opens, asks, runs, names, Answer, refused}
-use Rattle.model.specs.Acts.{Left, says, judge_ask, effect_of, unless, act_of}
-use Rattle.model.specs.Worlds.{World, Done, space_at, does}
+use Rattle.model.specs.Calls.{Call, opens, asks, runs}
+use Rattle.model.specs.Acts.{Left, judge_ask, effect_of, unless, act_of}
+use Rattle.model.specs.Worlds.{World, space_at}
 use Rattle.model.proofs.Settling.{upd_same, upd_other}
-use Rattle.protection.specs.Protection.{may_change, may_write, Confined, ConfinedRun}
+use Rattle.protection.specs.Protection.{may_change, Confined, ConfinedRun}
 use Rattle.protection.proofs.Invariant.{open_all}
 
 opening : (j : ℕ) (t : Table) (start : ℕ) (w : World) → Confined (opens j t start) w

@@ -1,11 +1,10 @@
 -- What a list of calls on a new engine keeps: no table names a page twice, a page that two jobs hold takes no writes, and only the eight jobs hold any.
-use Rattle.std.proofs.Common.{◌≡◌, ℕ, zero, suc, ◌+◌, ◌<◌, ◌≤◌, Bool, true, false, cond, not, ◌&&◌, ◌||◌, eqb, ltb, ◌≢◌, List, [], ◌∷◌, get_or, replicate, is_some, Some, None, Ok, Err, Option, sym, refl, ap, ◌∙◌, subst, arith, ne_eqb, eqb-true}
+use Rattle.std.proofs.Common.{◌≡◌, ℕ, zero, suc, ◌<◌, ◌≤◌, Bool, true, false, cond, not, ◌&&◌, ◌||◌, eqb, ltb, ◌≢◌, List, [], ◌∷◌, get_or, replicate, is_some, Ok, Err, sym, refl, ap, ◌∙◌, subst, arith, ne_eqb, eqb-true}
 use borrow.Author.Tests.{eqb-false}
 use Rattle.std.proofs.lemmas.Bool.{ltb-false}
-use Rattle.refusal.specs.declared.Ground.{Ground}
 use Rattle.refusal.specs.declared.Ground.TheVariants.{AlreadyOpen, ReservedBits, PageNamedTwice, PageNotWritable, PageHeld}
 use Rattle.refusal.specs.declared.Refusal.{Refusal}
-use Rattle.refusal.specs.Judging.{Judgement, when, at, also, first_from}
+use Rattle.refusal.specs.Judging.{Judgement, when, at, first_from}
 use Rattle.refusal.proofs.Searches.{none_passes}
 use Rattle.memory.specs.Memories.{Mem}
 use Rattle.space.specs.Cells.{Cells}
@@ -13,13 +12,13 @@ use Rattle.table.specs.Tables.{Apart, entry_of, access_in}
 use Rattle.pages.specs.Held.{Table, page_of, shown, holds, back}
 use Rattle.pages.specs.Entries.{reserved_at, again_at, fixed_at}
 use Rattle.pages.proofs.Truths.{clash, both, not_so, by_test}
-use Rattle.pages.proofs.Spaces.{access_low, holds_at, local}
+use Rattle.pages.proofs.Spaces.{access_low, holds_at}
 use Rattle.model.specs.declared.job.Job.{Job}
 use Rattle.model.specs.Jobs.{closed_job, opened_job, is_open}
 use Rattle.model.specs.Calls.{Call, opens, asks, names, Answer, refused, ends}
 use Rattle.model.specs.Acts.{Left, Act, no_such_job, act_of}
-use Rattle.model.specs.Worlds.{World, Done, space_at, upd, on_job, any, held_by, held_at, judge_open, opened, unless_open, does, no_job, jobs_of, new_world, twice}
-use Rattle.model.proofs.Settling.{upd_same, upd_other}
+use Rattle.model.specs.Worlds.{World, Done, space_at, upd, on_job, any, held_by, held_at, judge_open, opened, unless_open, does, no_job, new_world}
+use Rattle.model.proofs.Settling.{upd_other}
 use Rattle.model.proofs.Tables.{once_apart}
 use Rattle.protection.specs.Histories.{after}
 use Rattle.protection.proofs.Asides.{Aside, aside_sym, aside}

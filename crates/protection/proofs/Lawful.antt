@@ -1,5 +1,5 @@
 -- What every act owes: while its job goes on it keeps the table and leaves the job open, and when it ends it the record is the closed one.
-use Rattle.std.proofs.Common.{◌≡◌, ℕ, Bool, true, false, not, ◌&&◌, List, Ok, Err, Option, sym, refl, ap, ◌∙◌, arith}
+use Rattle.std.proofs.Common.{◌≡◌, ℕ, Bool, true, false, not, ◌&&◌, Ok, Err, sym, refl, ◌∙◌}
 use Rattle.refusal.specs.declared.Ground.TheVariants.{NotOpen}
 use Rattle.refusal.specs.declared.Refusal.{Refusal}
 use Rattle.refusal.specs.Judging.{Judgement, when, also}
@@ -8,12 +8,12 @@ use Rattle.stop.specs.declared.Trap.TheVariants.{Halt, SystemCall, Breakpoint}
 use Rattle.stop.specs.declared.Stop.{Stop}
 use Rattle.stop.specs.declared.Stop.TheVariants.{Limit, Trapped, Faulted}
 use Rattle.space.specs.Cells.{Cells}
-use Rattle.runs.specs.Runs.{Over, run_of}
+use Rattle.runs.specs.Runs.{run_of}
 use Rattle.pages.proofs.Truths.{clash}
 use Rattle.model.specs.declared.job.Job.{Job}
 use Rattle.model.specs.Jobs.{closed_job, is_open, status_after}
-use Rattle.model.specs.Calls.{Ask, loads, runs, replies, abandons, looks, states, closes, Answer, refused, done, accepted, closing, asks, ends}
-use Rattle.model.specs.Acts.{Left, Act, says, no_such_job, not_open, judge_ask, ran_left, effect_of, unless, act_of}
+use Rattle.model.specs.Calls.{Ask, loads, runs, replies, abandons, looks, states, closes, Answer, refused, accepted, closing, asks, ends}
+use Rattle.model.specs.Acts.{Left, says, no_such_job, not_open, judge_ask, effect_of, unless, act_of}
 use Rattle.refusal.proofs.Judgements.{err_ok, passed}
 
 -- `over` tells by the answer whether the act ended its job.

@@ -1,5 +1,5 @@
 -- The premises of protection are met by two engines that differ, and a call of the job's changes it.
-use Rattle.std.proofs.Common.{◌≡◌, ℕ, Bool, true, false, ◌≢◌, List, [], ◌∷◌, replicate, refl, ap, arith}
+use Rattle.std.proofs.Common.{◌≡◌, ℕ, true, false, [], ◌∷◌, replicate, refl, ap, arith}
 use Rattle.refusal.specs.Judging.{first_from}
 use Rattle.memory.specs.Memories.{Mem}
 use Rattle.pages.specs.Held.{Table, shown, finds, named, back_byte}
@@ -7,8 +7,8 @@ use Rattle.pages.specs.Loads.{laid_to}
 use Rattle.pages.proofs.Truths.{clash}
 use Rattle.model.specs.declared.job.Job.{Job}
 use Rattle.model.specs.Jobs.{is_open}
-use Rattle.model.specs.Calls.{Call, opens, asks, loads, runs}
-use Rattle.model.specs.Worlds.{World, any, held_by, new_world, does}
+use Rattle.model.specs.Calls.{opens, asks, loads, runs}
+use Rattle.model.specs.Worlds.{any, held_by}
 use Rattle.protection.specs.Histories.{after, calls_to}
 use Rattle.protection.specs.Protection.{Met}
 

@@ -1,7 +1,7 @@
 -- Lists of calls on an engine, each finding engine and memory as the one before left them, and what a job is told.
-use Rattle.std.specs.Prelude.{ℕ, Bool, true, false, cond, not, ◌&&◌, List, [], ◌∷◌, map, ◌==◌}
+use Rattle.std.specs.Prelude.{ℕ, Bool, true, cond, not, ◌&&◌, List, [], ◌∷◌, map, ◌==◌}
 use Rattle.model.specs.Calls.{Call, names, Answer, ends}
-use Rattle.model.specs.Worlds.{World, Done, does}
+use Rattle.model.specs.Worlds.{World, does}
 
 -- The world after a list of calls.
 unfoldable pub after : List Call → World → World

@@ -4,9 +4,9 @@ use Rattle.memory.specs.Memories.{Mem}
 use Rattle.table.specs.Tables.{writes}
 use Rattle.pages.specs.Held.{Table, holds}
 use Rattle.model.specs.declared.job.Job.{Job}
-use Rattle.model.specs.Calls.{Call, opens, asks, runs, names, Answer, done}
+use Rattle.model.specs.Calls.{Call, opens, asks, runs, names, done}
 use Rattle.model.specs.Worlds.{World, new_world, does}
-use Rattle.protection.specs.Histories.{after, Said, calls_to, said_to, upto_end, endless, calls_of}
+use Rattle.protection.specs.Histories.{after, calls_to, said_to, upto_end, endless, calls_of}
 
 -- (a) The job's own calls
 

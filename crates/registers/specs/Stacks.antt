@@ -1,5 +1,5 @@
 -- The stack: sixteen entries that wrap, and the next to fill.
-use Rattle.std.specs.Prelude.{ℕ, ◌+◌, ◌%◌, ◌<◌, replicate, slice_index, slice_set}
+use Rattle.std.specs.Prelude.{ℕ, ◌+◌, ◌%◌, replicate, slice_index, slice_set}
 use Rattle.std.proofs.Common.{mod-lt, lit<}
 use Rattle.registers.specs.declared.stack.Stack.{Stack}
 

@@ -6,8 +6,7 @@ use Rattle.space.specs.Cells.{Cells}
 use Rattle.stop.specs.declared.Fault.{Fault}
 use Rattle.stop.specs.declared.Trap.{Trap}
 use Rattle.stop.specs.declared.Trap.TheVariants.{Halt, SystemCall, Breakpoint}
-use Rattle.stop.specs.declared.Stop.{Stop}
-use Rattle.stop.specs.declared.Stop.TheVariants.{Limit, Trapped, Faulted}
+use Rattle.stop.specs.declared.Stop.TheVariants.{Limit}
 use Rattle.decode.specs.declared.instruction.Instruction.{Instruction}
 use Rattle.processor.specs.declared.Done.{Done}
 use Rattle.processor.specs.declared.effects.Carried.{Carried}
@@ -15,7 +14,7 @@ use Rattle.processor.specs.declared.fetching.Fetched.{Fetched}
 use Rattle.processor.specs.declared.fetching.Operand.{Operand}
 use Rattle.processor.specs.Fetches.{fetch_of, operand_of}
 use Rattle.processor.specs.Effects.{Effect, effect_of}
-use Rattle.processor.specs.Steps.{Stepped, settled, carried_out, decoded, step_of}
+use Rattle.processor.specs.Steps.{settled, carried_out, decoded, step_of}
 use Rattle.runs.specs.Runs.{Over, over, on_trap, on_answer, run_of, calls_in, calls_by}
 use Rattle.runs.specs.Laws.{Went, Ends, Unstopped, RunLaws, Charged, StepLaws}
 

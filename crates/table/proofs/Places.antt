@@ -1,5 +1,5 @@
 -- Addresses with access at one place in memory are one address, so a write through the table is one cell's.
-use Rattle.std.proofs.Common.{◌≡◌, ℕ, zero, suc, ◌+◌, ◌*◌, ◌/◌, ◌%◌, ◌<◌, Bool, true, false, cond, ◌&&◌, eqb, List, Ok, Err, Result, sym, refl, ap, ◌∙◌, ap₂, ⊎_elim, not-suc-le-zero, arith}
+use Rattle.std.proofs.Common.{◌≡◌, ℕ, zero, suc, ◌+◌, ◌*◌, ◌/◌, ◌%◌, ◌<◌, Bool, true, false, cond, ◌&&◌, List, Ok, Err, Result, sym, refl, ap, ◌∙◌, ap₂, ⊎_elim, not-suc-le-zero, arith}
 use mathlib.Core.Path.{fun_ext}
 use Rattle.std.proofs.lemmas.Bool.{cases_eq}
 use Rattle.std.proofs.lemmas.Bool.Decides.{nat_tests}
@@ -8,7 +8,7 @@ use Rattle.refusal.specs.declared.Refusal.{Refusal}
 use Rattle.refusal.specs.declared.Ground.TheVariants.{NoWrites}
 use Rattle.refusal.specs.Grounds.{refusal_of}
 use Rattle.memory.specs.Memories.{Mem, put, write_answer, stored}
-use Rattle.space.specs.Cells.{Cell, Cells, allow_of, store_of}
+use Rattle.space.specs.Cells.{allow_of, store_of}
 use Rattle.table.specs.Tables.{Apart, access_in, writing_in, page_in, entry_of, physical, cells_by, writes, frame_by}
 
 -- A memory with a byte put at an address.

@@ -1,5 +1,5 @@
 -- The steps of the loops over a line.
-use Rattle.std.proofs.Common.{◌≡◌, ℕ, zero, suc, ◌+◌, ◌-◌, ◌<◌, ◌≤◌, true, false, cond, ◌&&◌, leb, List, [], ◌∷◌, length, get_or, drop, Some, None, refl, ap, ◌∙◌, le_of_suc-le-suc, not-suc-le-zero, add-one, drop-cons}
+use Rattle.std.proofs.Common.{◌≡◌, ℕ, zero, suc, ◌+◌, ◌<◌, ◌≤◌, true, false, cond, ◌&&◌, leb, List, [], ◌∷◌, length, get_or, drop, Some, None, refl, ap, ◌∙◌, le_of_suc-le-suc, not-suc-le-zero, add-one, drop-cons}
 use Rattle.words.specs.declared.Kind.{Kind}
 use Rattle.words.specs.Kinds.{digit_byte}
 use Rattle.words.specs.Words.{kind_of, leading}

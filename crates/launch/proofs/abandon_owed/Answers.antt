@@ -1,5 +1,5 @@
-use Rattle.std.proofs.Common.{◌≡◌, Some, Option, ap, subst}
-use Rattle.model.specs.Worlds.{World, world_of, jobs_of}
+use Rattle.std.proofs.Common.{Option, subst}
+use Rattle.model.specs.Worlds.{world_of, jobs_of}
 use Rattle.model.specs.Calls.{Owed}
 use Rattle.engine.specs.declared.receipt.Receipt.{Receipt}
 use Rattle.engine.specs.Answers.{owed_of}

@@ -1,7 +1,7 @@
-use Rattle.std.proofs.Common.{◌≡◌, ap, ◌∙◌}
+use Rattle.std.proofs.Common.{ap, ◌∙◌}
 use Rattle.registers.specs.Processors.{bank_of}
 use Rattle.model.specs.declared.job.State.{State}
-use Rattle.model.specs.Worlds.{World, world_of}
+use Rattle.model.specs.Worlds.{world_of}
 use Rattle.launch.proofs.Ran.{no_mem, state_kept, state_is}
 use Rattle.launch.proofs.accumulator.Goals as goal
 

@@ -1,15 +1,15 @@
-use Rattle.std.proofs.Common.{◌≡◌, ℕ, List, Ok, Err, Result, sym, refl, ap, ◌∙◌, ap₂}
+use Rattle.std.proofs.Common.{ℕ, List, Ok, Err, Result, sym, ap, ◌∙◌, ap₂}
 use Rattle.std.proofs.lemmas.Result.{err_from_is_err_and}
 use Rattle.refusal.specs.declared.Refusal.{Refusal}
 use Rattle.memory.specs.Memories.{Mem}
 use Rattle.image.specs.Files.{BlockOf, Parsed}
 use Rattle.image.specs.Parts.{image_blocks}
 use Rattle.model.specs.Calls.{opens}
-use Rattle.model.specs.Worlds.{World, Done, world_of, new_world, does}
+use Rattle.model.specs.Worlds.{World, world_of, does}
 use Rattle.engine.specs.Answers.{owed_of}
 use Rattle.launch.specs.declared.Figure.{Figure}
-use Rattle.launch.specs.Launches.{Launched, launch_of, loads_all, loaded_by, settled_by, figure_of}
-use Rattle.launch.proofs.Ran.{RanSays, ran_says, ran_open, ran_acceptable, settled_mem}
+use Rattle.launch.specs.Launches.{Launched, loads_all}
+use Rattle.launch.proofs.Ran.{ran_says, ran_open, ran_acceptable, settled_mem}
 use Rattle.launch.proofs.Stages.{open_refused, load_refused, run_refused, ran_out}
 use Rattle.launch.proofs.launch.Goals as goal
 

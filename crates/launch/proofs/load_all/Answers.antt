@@ -1,9 +1,9 @@
-use Rattle.std.proofs.Common.{◌≡◌, Ok, Err, Result, sym, refl, ap, ◌∙◌}
+use Rattle.std.proofs.Common.{Err, Result, ap, ◌∙◌}
 use Rattle.std.proofs.lemmas.Result.{err_from_is_err_and}
 use Rattle.refusal.specs.declared.Refusal.{Refusal}
 use Rattle.image.specs.Parts.{left, block_of}
 use Rattle.model.specs.Worlds.{World, world_of}
-use Rattle.launch.specs.Launches.{Loaded, loaded_by}
+use Rattle.launch.specs.Launches.{loaded_by}
 use Rattle.launch.proofs.Stages.{load_one, load_stop, load_end}
 use Rattle.launch.proofs.load_all.Goals as goal
 

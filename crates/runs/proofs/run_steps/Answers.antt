@@ -1,4 +1,4 @@
-use Rattle.std.proofs.Common.{◌≡◌, ◌+◌, ◌-◌, Ok, Err, sym, ap, ◌∙◌, arith}
+use Rattle.std.proofs.Common.{◌+◌, ◌-◌, Ok, Err, sym, ap, ◌∙◌, arith}
 use Rattle.processor.specs.Steps.{stepped}
 use Rattle.runs.specs.Runs.{on_trap, run_of}
 use Rattle.runs.proofs.Turning.{turn}

@@ -1,4 +1,4 @@
-use Rattle.std.proofs.Common.{◌≡◌, Ok, Err, ap, ◌∙◌, arith}
+use Rattle.std.proofs.Common.{Ok, Err, ap, ◌∙◌, arith}
 use Rattle.block.specs.Afters.{after}
 use Rattle.block.specs.Fields.{field_from}
 use Rattle.block.proofs.FieldTurns.{field_turn}

@@ -1,4 +1,4 @@
-use Rattle.std.proofs.Common.{◌≡◌, ℕ, List, sym, ap, ◌∙◌}
+use Rattle.std.proofs.Common.{ℕ, List, sym, ap, ◌∙◌}
 use Rattle.model.specs.Calls.{Answer, asks, loads}
 use Rattle.model.specs.Worlds.{World, Done, world_of, does}
 use Rattle.console.proofs.calls.load.Goals as goal

@@ -1,4 +1,4 @@
-use Rattle.std.proofs.Common.{◌≡◌, ℕ, List, ◌++◌, length, take, sym, refl, ap, ◌∙◌}
+use Rattle.std.proofs.Common.{◌≡◌, ℕ, List, ◌++◌, length, take, sym, ap, ◌∙◌}
 use lib.Seq.{take-append_seam}
 use Rattle.model.specs.Calls.{asks, looks, saw}
 use Rattle.model.specs.Worlds.{World, Done, world_of, does}

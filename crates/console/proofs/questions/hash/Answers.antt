@@ -1,4 +1,4 @@
-use Rattle.std.proofs.Common.{◌≡◌, ℕ, suc, ◌+◌, sym, refl, ap, ◌∙◌, ap₂, add-one}
+use Rattle.std.proofs.Common.{◌≡◌, ℕ, ◌+◌, sym, refl, ap, ◌∙◌, ap₂, add-one}
 use Rattle.console.specs.Questions.{hash_step, hash_of}
 use Rattle.console.proofs.questions.hash.Goals as goal
 

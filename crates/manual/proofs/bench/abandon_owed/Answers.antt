@@ -1,4 +1,4 @@
-use Rattle.std.proofs.Common.{◌≡◌, Option, subst}
+use Rattle.std.proofs.Common.{Option, subst}
 use Rattle.model.specs.Calls.{Owed}
 use Rattle.model.specs.Worlds.{world_of, jobs_of}
 use Rattle.engine.specs.declared.receipt.Receipt.{Receipt}

@@ -1,4 +1,4 @@
-use Rattle.std.proofs.Common.{◌≡◌, Option, subst}
+use Rattle.std.proofs.Common.{Option, subst}
 use Rattle.model.specs.Worlds.{World, world_of}
 use Rattle.engine.specs.declared.receipt.Receipt.{Receipt}
 use Rattle.engine.specs.Answers.{owed_of}

@@ -1,4 +1,4 @@
-use Rattle.std.proofs.Common.{◌≡◌, ℕ, ◌+◌, ◌*◌, ◌%◌, sym, ap, ◌∙◌, arith}
+use Rattle.std.proofs.Common.{◌≡◌, ◌+◌, ◌*◌, sym, ap, ◌∙◌, arith}
 use Rattle.memory.specs.Memories.{Mem, put}
 use Rattle.pages.specs.Held.{zeroed_page}
 use Rattle.pages.proofs.Clears.{page_none, page_more, with_bytes}

@@ -1,7 +1,7 @@
-use Rattle.std.proofs.Common.{◌≡◌, ℕ, ◌+◌, ◌<◌, ◌≤◌, length, ap, ◌∙◌, arith}
+use Rattle.std.proofs.Common.{◌≡◌, ℕ, ◌+◌, ◌<◌, length, ap, ◌∙◌, arith}
 use Rattle.space.specs.Cells.{Cells}
 use Rattle.pages.specs.Held.{bytes_of, shown}
-use Rattle.pages.proofs.Seen.{Shows, shows_more, shows_all}
+use Rattle.pages.proofs.Seen.{shows_more, shows_all}
 use Rattle.pages.proofs.looking.show.Goals as goal
 
 pub loop-x-preserved : goal.loop-x-preserved

@@ -1,5 +1,4 @@
-use Rattle.std.proofs.Common.{◌≡◌, sym, refl, ap, ◌∙◌}
-use Rattle.model.specs.declared.job.Job.{Job}
+use Rattle.std.proofs.Common.{refl, ◌∙◌}
 use Rattle.model.specs.Jobs.{closed_job}
 use Rattle.model.specs.Calls.{abandons, done}
 use Rattle.model.specs.Acts.{judge_receipt}

@@ -1,8 +1,7 @@
-use Rattle.std.proofs.Common.{◌≡◌, Ok, Err, Result, sym, refl, ap, ◌∙◌}
+use Rattle.std.proofs.Common.{◌≡◌, Err, Result, sym, refl, ap, ◌∙◌}
 use Rattle.std.proofs.lemmas.Result.{err_from_is_err_and}
 use Rattle.refusal.specs.declared.Refusal.{Refusal}
 use Rattle.engine.specs.Answers.{state_answer}
-use Rattle.memory.specs.Memories.{Mem}
 use Rattle.model.specs.declared.job.Job.{Job}
 use Rattle.model.specs.declared.job.State.{State}
 use Rattle.model.specs.Jobs.{state_of}

@@ -1,4 +1,4 @@
-use Rattle.std.proofs.Common.{◌≡◌, ap, ◌∙◌}
+use Rattle.std.proofs.Common.{ap, ◌∙◌}
 use Rattle.model.specs.declared.job.Job.{Job}
 use Rattle.model.specs.Worlds.{twice}
 use Rattle.model.proofs.Tables.{once_apart}

@@ -1,4 +1,4 @@
-use Rattle.std.proofs.Common.{◌≡◌, ℕ, ◌+◌, ◌*◌, ◌%◌, true, sym, ap, ◌∙◌}
+use Rattle.std.proofs.Common.{◌≡◌, ◌+◌, ◌*◌, ◌%◌, true, sym, ap, ◌∙◌}
 use Rattle.memory.specs.Memories.{Mem}
 use Rattle.table.specs.Tables.{access_in, writing_in, page_in}
 use Rattle.table.proofs.Places.{store_allowed, store_cells, store_frame}
