@@ -1,5 +1,5 @@
 // What a load does to memory.
-ghost use Rattle.std.specs.Prelude.{◌≡◌, ℕ, ◌/◌, Bool, not, Ok as IsOk};
+ghost use Rattle.std.specs.Prelude.{◌≡◌, ℕ, ◌/◌, Bool, not};
 ghost use Rattle.pages.specs.Held.{shown, bytes_of, back};
 ghost use Rattle.pages.specs.Entries.{shut_at, refuses_at};
 ghost use Rattle.pages.specs.Loads.{judge_load, laid, loaded_mem};
@@ -62,7 +62,7 @@ fn judge<'x, M: Memory>(
 
 // Puts the bytes at a job's addresses, each of which takes writes.
 fn lay<M: Memory>(table: Table, memory: &mut M, at: u16, bytes: &[u8])
-    requires { judge_load at bytes.now (shown table.entries (M.mem memory.old)) ≡ IsOk tt }
+    requires { judge_load at bytes.now (shown table.entries (M.mem memory.old)) ≡ Ok tt }
     ensures { M.mem memory.new ≡ back table.entries (laid at bytes.now (bytes_of (shown table.entries (M.mem memory.old)))) (M.mem memory.old) }
 {
     let mut a = at;
