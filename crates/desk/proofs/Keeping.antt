@@ -129,17 +129,17 @@ by_stop j b (Faulted e) None s p = ap (λ (u : Status). not (is_waiting u)) s
 by_stop j b (Faulted e) (Some r) s p = absurd (let z : ◌≡◌ {A = ℕ} 0 1 = cc in omega arith)
 
 -- A run that is accepted: the job did not wait, and is owed the receipt that the run gives.
-pub record Ran-owes (j : ℕ) (w v : World) (x : Option Receipt) : Type 0 where
+pub record RanOwes (j : ℕ) (w v : World) (x : Option Receipt) : Type 0 where
   pub low : j < 8
   pub idle : is_waiting (w.jobs j).status ≡ false
   pub jobs : v.jobs ≡ upd w.jobs j (v.jobs j)
   pub owed : owed_to j (v.jobs j) x ≡ true
 
 module _ (j n : ℕ) (w v : World) where
-  pub run_owes : (r : Ran) (x : Option Receipt) → does (asks j (runs n)) w ≡ record { world = v; answer = ran r (owed_of x) } → Ran-owes j w v x
+  pub run_owes : (r : Ran) (x : Option Receipt) → does (asks j (runs n)) w ≡ record { world = v; answer = ran r (owed_of x) } → RanOwes j w v x
   run_owes r x p = go (judge_run j n (w.jobs j)) refl
     where
-      go : (z : Judgement) → judge_run j n (w.jobs j) ≡ z → Ran-owes j w v x
+      go : (z : Judgement) → judge_run j n (w.jobs j) ≡ z → RanOwes j w v x
       go (Err e) q = refused_ran e r (owed_of x) (ap (λ (d : Done). d.answer) (sym (refuses j (runs n) w e q) ∙ p))
       go (Ok u) q =
           let b : Job = w.jobs j in
@@ -210,6 +210,6 @@ release_says w v j n o p k =
 pub run_accepts : (j n : ℕ) (w v : World) (r : Ran) (x : Receipt) → does (asks j (runs n)) w ≡ record { world = v; answer = ran r (owed_of (Some x)) }
     → judge_receipt x.job x.number (v.jobs x.job) ≡ Ok tt
 run_accepts j n w v r x p =
-    let says : Ran-owes j w v (Some x) = run_owes j n w v r (Some x) p in
+    let says : RanOwes j w v (Some x) = run_owes j n w v r (Some x) p in
     let waits : Waits j (v.jobs j) x = held_waits j (v.jobs j) x says.owed in
     subst (λ i. judge_receipt i x.number (v.jobs i) ≡ Ok tt) (sym waits.job) (accepted j x.number (v.jobs j) says.low waits.waiting waits.number)

@@ -3,7 +3,7 @@ use Rattle.model.specs.declared.job.Job.{Job}
 use Rattle.model.specs.Worlds.{World, world_of}
 use Rattle.desk.specs.Owing.{owed_to}
 use Rattle.desk.proofs.Owing.{all_kept}
-use Rattle.desk.proofs.Keeping.{Ran-owes, run_owes, run_refused}
+use Rattle.desk.proofs.Keeping.{RanOwes, run_owes, run_refused}
 use Rattle.desk.proofs.desk.Desk.run.Goals as goal
 
 pub invariant_of-self : goal.invariant_of-self
@@ -18,7 +18,7 @@ invariant_of-self-2 g c =
     let self = c.args.self.now in
     let w : World = world_of self.engine.jobs (g.M.Memory.mem c.args.memory.now) in
     let v : World = world_of c.run.new.self.jobs (g.M.Memory.mem c.run.new.memory) in
-    let says : Ran-owes c.args.job w v c.in_ok-run.field-0.receipt =
+    let says : RanOwes c.args.job w v c.in_ok-run.field-0.receipt =
     run_owes c.args.job c.args.limit w v c.in_ok-run.field-0.run c.in_ok-run.field-0.receipt c.in_ok-run.ensures in
     record {
       kept = all_kept w.jobs v.jobs self.held.receipts c.replace.new.self.receipts c.args.job (v.jobs c.args.job) c.in_ok-run.field-0.receipt self.kept
