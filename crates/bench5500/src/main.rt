@@ -58,97 +58,107 @@ fn table_of(job: u8) -> [u8; 15] {
     table
 }
 
-// Opens so many jobs with the program.
-fn start<M: Memory>(desk: &mut Desk, memory: &mut M, jobs: u8) -> Result<(), Refusal> {
-    for job in 0..jobs {
-        desk.open(memory, job, table_of(job), 0)?;
-        desk.load(memory, job, 0, &PROGRAM)?;
-    }
-    Ok(())
-}
-
-// Runs the jobs in turn, 65,535 steps at a time, and says how many steps that were.
-fn rounds<M: Memory>(
-    desk: &mut Desk,
-    memory: &mut M,
-    jobs: u8,
-    turns: u32,
-) -> Result<u64, Refusal> {
-    let mut steps: u64 = 0;
-    for _ in 0..turns {
-        for job in 0..jobs {
-            steps = steps.wrapping_add(u64::from(desk.run(memory, job, 65535)?.steps));
-        }
-    }
-    Ok(steps)
-}
-
 // Nanoseconds in hundredths, for each of so many.
 fn hundredths(nanos: u128, count: u64) -> u128 {
-    nanos.saturating_mul(100) / (count.max(1) as u128)
+    nanos.saturating_mul(100) / u128::from(count.max(1))
 }
 
-// Prints what one of so many took.
-fn tell(rt: &HostRuntime, name: &str, nanos: u128, count: u64) -> anyhow::Result<()> {
-    let each = hundredths(nanos, count);
-    let whole = each / 100;
-    let rest = each % 100;
-    eprintln!(rt; "{name}: {whole}.{rest:02} ns")?;
-    Ok(())
-}
-
-// Starts and runs jobs over a memory, and prints the time of a step and the memory's hash.
-fn measure<M: Memory>(
-    rt: &HostRuntime,
-    desk: &mut Desk,
-    memory: &mut M,
-    name: &str,
+// A measurement: so many jobs with the program, which run in turn so many times.
+struct Measurement<'a> {
+    name: &'a str,
     jobs: u8,
     turns: u32,
-) -> anyhow::Result<()> {
-    if let Err(refusal) = start(desk, memory, jobs) {
-        println!(rt; "{name} {refusal}")?;
-        return Ok(());
+}
+
+impl Measurement<'_> {
+    fn start<M: Memory>(&self, desk: &mut Desk, memory: &mut M) -> Result<(), Refusal> {
+        for job in 0..self.jobs {
+            desk.open(memory, job, table_of(job), 0)?;
+            desk.load(memory, job, 0, &PROGRAM)?;
+        }
+        Ok(())
     }
-    let begun = Instant::now(rt)?;
-    let ran = rounds(desk, memory, jobs, turns);
-    let nanos = begun.elapsed(rt)?.as_nanos();
-    match ran {
-        Ok(steps) => {
-            let sum = hash(memory);
-            println!(rt; "{name} steps {steps} hash {sum}")?;
-            tell(rt, name, nanos, steps)
+
+    // Each turn of a job is 65,535 steps. Says how many steps that were.
+    fn run<M: Memory>(&self, desk: &mut Desk, memory: &mut M) -> Result<u64, Refusal> {
+        let mut steps: u64 = 0;
+        for _ in 0..self.turns {
+            for job in 0..self.jobs {
+                steps = steps.wrapping_add(u64::from(desk.run(memory, job, 65535)?.steps));
+            }
         }
-        Err(refusal) => {
-            println!(rt; "{name} {refusal}")?;
-            Ok(())
+        Ok(steps)
+    }
+
+    // Prints the steps and the memory's hash, and what one step took.
+    fn tell(&self, rt: &HostRuntime, steps: u64, sum: u64, nanos: u128) -> anyhow::Result<()> {
+        let name = self.name;
+        println!(rt; "{name} steps {steps} hash {sum}")?;
+        let each = hundredths(nanos, steps);
+        eprintln!(rt; "{name}: {}.{:02} ns", each / 100, each % 100)?;
+        Ok(())
+    }
+
+    fn tell_refused(&self, rt: &HostRuntime, refusal: Refusal) -> anyhow::Result<()> {
+        println!(rt; "{} {refusal}", self.name)?;
+        Ok(())
+    }
+
+    // Starts and runs the jobs, and takes the time of the runs alone.
+    fn measure<M: Memory>(
+        &self,
+        rt: &HostRuntime,
+        desk: &mut Desk,
+        memory: &mut M,
+    ) -> anyhow::Result<()> {
+        if let Err(refusal) = self.start(desk, memory) {
+            return self.tell_refused(rt, refusal);
         }
+        let begun = Instant::now(rt)?;
+        let ran = self.run(desk, memory);
+        let nanos = begun.elapsed(rt)?.as_nanos();
+        match ran {
+            Ok(steps) => self.tell(rt, steps, hash(memory), nanos),
+            Err(refusal) => self.tell_refused(rt, refusal),
+        }
+    }
+
+    // The measurement over a memory, at a desk of its own.
+    fn over<M: Memory>(&self, rt: &HostRuntime, memory: &mut M) -> anyhow::Result<()> {
+        let mut desk = Desk::new();
+        let result = self.measure(rt, &mut desk, memory);
+        desk.finish();
+        result
     }
 }
 
-// A measurement with a desk of its own.
-fn run_on<M: Memory>(
-    rt: &HostRuntime,
-    memory: &mut M,
-    name: &str,
-    jobs: u8,
-    turns: u32,
-) -> anyhow::Result<()> {
-    let mut desk = Desk::new();
-    let result = measure(rt, &mut desk, memory, name, jobs, turns);
-    desk.finish();
-    result
-}
+const SINGLE: Measurement<'static> = Measurement {
+    name: "single",
+    jobs: 1,
+    turns: 400,
+};
+
+const EIGHT: Measurement<'static> = Measurement {
+    name: "eight",
+    jobs: 8,
+    turns: 50,
+};
+
+const PILE: Measurement<'static> = Measurement {
+    name: "pile",
+    jobs: 1,
+    turns: 400,
+};
 
 fn main(rt: HostRuntime) -> anyhow::Result<()> {
     let mut bytes = vec![in rt.alloc(); 0u8; 65536]?;
     let mut board = Filling::new().seal(PageSet::none()).board(&mut bytes);
-    run_on(&rt, &mut board, "single", 1, 400)?;
-    run_on(&rt, &mut board, "eight", 8, 50)?;
+    SINGLE.over(&rt, &mut board)?;
+    EIGHT.over(&rt, &mut board)?;
     let rom = vec![in rt.alloc(); 7u8; 4096]?;
     let mut pile = SealLayer::over(
         RomLayer::over(board, Page::of(61440), rom.as_slice()),
         PageSet::none(),
     );
-    run_on(&rt, &mut pile, "pile", 1, 400)
+    PILE.over(&rt, &mut pile)
 }

@@ -1,12 +1,7 @@
 // Two jobs price by one sealed tariff page, and a third trespasses.
-ghost use Rattle.std.specs.Prelude.{◌≡◌};
-ghost use Rattle.model.specs.Worlds.{jobs_of};
-ghost use Rattle.engine.specs.Answers.{owed_of};
-ghost use Rattle.launch.specs.Launches.{Acceptable};
-
+use super::told;
 use boards::single::{Filling, SingleBoard};
-use engine::jobs::Engine;
-use engine::receipt::{Outcome, Receipt};
+use desk::desk::Desk;
 use memory::Memory;
 use memory::page::Page;
 use memory::sets::PageSet;
@@ -35,124 +30,120 @@ const WRITES_TARIFF: [u8; 5] = [0o056, 0o020, 0o066, 0, 0o370];
 const READS_OUTSIDE: [u8; 5] = [0o056, 0o040, 0o066, 0, 0o307];
 
 fn tariff_board<'a>(bytes: &'a mut [u8]) -> Result<SingleBoard<'a>, Refusal> {
-    let five = Page::new(5)?;
+    let five = Page::try_from(5)?;
     let filling = Filling::new();
     filling.fill(bytes, five, 0, &TARIFF)?;
     Ok(filling.seal(PageSet::none().with(five)).board(bytes))
 }
 
-fn start<M: Memory>(
-    engine: &mut Engine,
-    memory: &mut M,
-    job: u8,
-    table: [u8; 15],
-    code: &[u8],
-) -> Result<(), Refusal> {
-    engine.open(memory, job, table, 0)?;
-    engine.load(memory, job, 0, code)
+// A desk over the board.
+#[derive(Drop)]
+struct Host<'h, 'b> {
+    desk: &'h mut Desk,
+    board: &'h mut SingleBoard<'b>,
 }
 
-// Abandons what is owed, which is accepted.
-fn abandon_owed(engine: &mut Engine, receipt: Option<Receipt>)
-    requires { Acceptable (owed_of receipt) (jobs_of engine.old.jobs) }
-{
-    if let Some(owed) = receipt {
-        match engine.abandon(owed) {
-            Ok(()) => {}
-            Err(_) => unreachable(),
-        }
+impl Host<'_, '_> {
+    fn start(&mut self, job: u8, table: [u8; 15], code: &[u8]) -> Result<(), Refusal> {
+        self.desk.open(self.board, job, table, 0)?;
+        self.desk.load(self.board, job, 0, code)
+    }
+
+    // Runs a job, and tells the stop and the job's state.
+    fn watch(&mut self, job: u8, limit: u16) -> Result<(u8, State), Refusal> {
+        let ran = self.desk.run(self.board, job, limit)?;
+        let mut state = State::blank();
+        self.desk.state(job, &mut state)?;
+        Ok((ran.stop.number(), state))
     }
 }
 
-// Runs a job, and tells the stop and the job's state.
-fn watch<M: Memory>(
-    engine: &mut Engine,
-    memory: &mut M,
-    job: u8,
-    limit: u16,
-) -> Result<(u8, State), Refusal> {
-    let Outcome { run, receipt } = engine.run(memory, job, limit)?;
-    let mut state = State::blank();
-    let told = engine.state(job, &mut state);
-    abandon_owed(engine, receipt);
-    told?;
-    Ok((run.stop.number(), state))
-}
-
-// The price that a shipper's program finds alone, in one go.
-fn alone(rt: &HostRuntime, table: [u8; 15], code: &[u8]) -> Result<(u8, u32, u64), Fail> {
+// What is found at a new desk over a new board.
+fn at_host<T, F: FnOnce(&mut Host<'_, '_>) -> Result<T, Fail>>(
+    rt: &HostRuntime,
+    found: F,
+) -> Result<T, Fail>
+    requires { F.IsAlwaysCallable found }
+{
     let mut bytes = vec![in rt.alloc(); 0u8; 65536]?;
     let mut board = tariff_board(&mut bytes)?;
-    let mut engine = Engine::new();
-    start(&mut engine, &mut board, 0, table, code)?;
-    let (_, state) = watch(&mut engine, &mut board, 0, 100)?;
-    Ok((state.processor.bank().a, state.steps, state.time))
+    let mut desk = Desk::new();
+    let told = found(&mut Host {
+        desk: &mut desk,
+        board: &mut board,
+    });
+    let _ = desk.finish();
+    told
+}
+
+// The price that a shipper's program finds alone, in one go, with the steps and the time.
+fn alone(rt: &HostRuntime, table: [u8; 15], code: &[u8]) -> Result<(u8, u32, u64), Fail> {
+    at_host(rt, |host| {
+        host.start(0, table, code)?;
+        let (_, state) = host.watch(0, 100)?;
+        Ok((state.processor.bank().a, state.steps, state.time))
+    })
 }
 
 // Price, steps and time come out the same alone and beside a neighbour that runs in between.
 #[test]
 fn neighbours_leave_the_price(rt: HostRuntime) -> Result<(), Fail> {
-    let mut bytes = vec![in rt.alloc(); 0u8; 65536]?;
-    let mut board = tariff_board(&mut bytes)?;
-    let mut engine = Engine::new();
-    start(&mut engine, &mut board, 0, FIRST, &ZONE_ONE)?;
-    start(&mut engine, &mut board, 1, SECOND, &ZONE_THREE)?;
-    let (one, _) = watch(&mut engine, &mut board, 0, 2)?;
-    let (two, _) = watch(&mut engine, &mut board, 1, 1)?;
-    assert_eq!(rt; (one, two), (1, 1));
-    let (stop, first) = watch(&mut engine, &mut board, 0, 100)?;
-    let (other, second) = watch(&mut engine, &mut board, 1, 100)?;
-    assert_eq!(rt; (stop, other), (2, 2));
-    assert_eq!(rt;
-        (first.processor.bank().a, second.processor.bank().a),
-        (20, 80)
-    );
-    assert_eq!(rt;
-        (20, first.steps, first.time),
-        alone(&rt, FIRST, &ZONE_ONE)?
-    );
-    assert_eq!(rt;
-        (80, second.steps, second.time),
-        alone(&rt, SECOND, &ZONE_THREE)?
-    );
-    Ok(())
+    at_host(&rt, |host| {
+        host.start(0, FIRST, &ZONE_ONE)?;
+        host.start(1, SECOND, &ZONE_THREE)?;
+        let (one, _) = host.watch(0, 2)?;
+        let (two, _) = host.watch(1, 1)?;
+        assert_eq!(rt; (one, two), (1, 1));
+        let (stop, first) = host.watch(0, 100)?;
+        let (other, second) = host.watch(1, 100)?;
+        assert_eq!(rt; (stop, other), (2, 2));
+        assert_eq!(rt;
+            (first.processor.bank().a, second.processor.bank().a),
+            (20, 80)
+        );
+        assert_eq!(rt;
+            (20, first.steps, first.time),
+            alone(&rt, FIRST, &ZONE_ONE)?
+        );
+        assert_eq!(rt;
+            (80, second.steps, second.time),
+            alone(&rt, SECOND, &ZONE_THREE)?
+        );
+        Ok(())
+    })
 }
 
 // A job that writes the tariff gets stop 7, one that reads outside its table stop 6; the tariff and the neighbour stay.
 #[test]
 fn trespassers_are_stopped(rt: HostRuntime) -> Result<(), Fail> {
-    let mut bytes = vec![in rt.alloc(); 0u8; 65536]?;
-    let mut board = tariff_board(&mut bytes)?;
-    let mut engine = Engine::new();
-    start(&mut engine, &mut board, 0, FIRST, &ZONE_ONE)?;
-    start(&mut engine, &mut board, 2, THIRD, &WRITES_TARIFF)?;
-    let (seven, _) = watch(&mut engine, &mut board, 2, 100)?;
-    engine.close(2)?;
-    start(&mut engine, &mut board, 2, THIRD, &READS_OUTSIDE)?;
-    let (six, _) = watch(&mut engine, &mut board, 2, 100)?;
-    assert_eq!(rt; (seven, six), (7, 6));
-    let mut seen = [9u8; 4];
-    engine.look(&board, 0, 4096, &mut seen)?;
-    assert_eq!(rt; seen, TARIFF);
-    let (_, state) = watch(&mut engine, &mut board, 0, 100)?;
-    assert_eq!(rt; state.processor.bank().a, 20);
-    Ok(())
+    at_host(&rt, |host| {
+        host.start(0, FIRST, &ZONE_ONE)?;
+        host.start(2, THIRD, &WRITES_TARIFF)?;
+        let (seven, _) = host.watch(2, 100)?;
+        host.desk.close(2)?;
+        host.start(2, THIRD, &READS_OUTSIDE)?;
+        let (six, _) = host.watch(2, 100)?;
+        assert_eq!(rt; (seven, six), (7, 6));
+        let mut seen = [9u8; 4];
+        host.desk.look(host.board, 0, 4096, &mut seen)?;
+        assert_eq!(rt; seen, TARIFF);
+        let (_, state) = host.watch(0, 100)?;
+        assert_eq!(rt; state.processor.bank().a, 20);
+        Ok(())
+    })
 }
 
 // A closed job's pages go to another with their bytes cleared, and a page that a job holds does not.
 #[test]
 fn pages_change_hands(rt: HostRuntime) -> Result<(), Fail> {
-    let mut bytes = vec![in rt.alloc(); 0u8; 65536]?;
-    let mut board = tariff_board(&mut bytes)?;
-    let mut engine = Engine::new();
-    start(&mut engine, &mut board, 0, FIRST, &ZONE_ONE)?;
-    match engine.open(&mut board, 1, FIRST, 0) {
-        Ok(()) => return Err(Fail::new("a held page was given away")),
-        Err(refusal) => assert_eq!(rt; (refusal.ground.number(), refusal.place), (10, 0)),
-    }
-    engine.close(0)?;
-    assert_eq!(rt; board.read(12288), 0o056);
-    engine.open(&mut board, 1, FIRST, 0)?;
-    assert_eq!(rt; board.read(12288), 0);
-    Ok(())
+    at_host(&rt, |host| {
+        host.start(0, FIRST, &ZONE_ONE)?;
+        let held = host.desk.open(host.board, 1, FIRST, 0);
+        assert_eq!(rt; held.map_err(told), Err((10, 0)));
+        host.desk.close(0)?;
+        assert_eq!(rt; host.board.read(12288), 0o056);
+        host.desk.open(host.board, 1, FIRST, 0)?;
+        assert_eq!(rt; host.board.read(12288), 0);
+        Ok(())
+    })
 }

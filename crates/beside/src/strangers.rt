@@ -4,6 +4,7 @@ ghost use Rattle.model.specs.Acts.{judge_receipt};
 ghost use Rattle.model.specs.Worlds.{jobs_of};
 ghost use Rattle.beside.specs.Fitting.{Fitting};
 
+use super::told;
 use boards::single::Filling;
 use engine::jobs::Engine;
 use engine::receipt::{Outcome, Receipt, Returned};
@@ -32,10 +33,7 @@ const REGISTERS: Registers = Registers {
 fn abandon_fitting(engine: &mut Engine, owed: Receipt)
     requires { judge_receipt owed.job owed.number (jobs_of engine.old.jobs owed.job) ≡ Ok tt }
 {
-    match engine.abandon(owed) {
-        Ok(()) => {}
-        Err(_) => unreachable(),
-    }
+    engine.abandon(owed).unwrap();
 }
 
 // Gives each engine the receipt of the other, if the two say the same. Whether they did.
@@ -57,10 +55,8 @@ fn exchange(one: &mut Engine, other: &mut Engine, first: Receipt, second: Receip
 fn run_to_call<M: Memory>(engine: &mut Engine, memory: &mut M) -> Result<Option<Receipt>, Refusal>
     ensures { Fitting result (jobs_of engine.new.jobs) }
 {
-    match engine.run(memory, 0, 9) {
-        Ok(Outcome { run: _, receipt }) => Ok(receipt),
-        Err(refusal) => Err(refusal),
-    }
+    let Outcome { run: _, receipt } = engine.run(memory, 0, 9)?;
+    Ok(receipt)
 }
 
 // Runs job 0 of both engines up to a system call, and has the receipts change places.
@@ -136,12 +132,12 @@ fn a_strangers_receipt_is_handed_back(rt: HostRuntime) -> Result<(), Fail> {
     let mut one = Engine::new();
     let mut other = Engine::new();
     start(&mut one, &mut board, FIRST)?;
-    let closed = offer(&mut one, &mut other, &mut board)?.ok_or("it was accepted")?;
-    assert_eq!(rt; (closed.ground.number(), closed.place), (6, 0));
+    let closed = offer(&mut one, &mut other, &mut board)?;
+    assert_eq!(rt; closed.map(told), Some((6, 0)));
     start(&mut one, &mut board, FIRST)?;
     start(&mut other, &mut board, SECOND)?;
-    let idle = offer(&mut one, &mut other, &mut board)?.ok_or("it was accepted")?;
-    assert_eq!(rt; (idle.ground.number(), idle.place), (14, 0));
+    let idle = offer(&mut one, &mut other, &mut board)?;
+    assert_eq!(rt; idle.map(told), Some((14, 0)));
     assert!(rt; !is_open(&one) && is_open(&other));
     Ok(())
 }

@@ -36,14 +36,10 @@ pub fn run_field<S: Space>(op: Operation, bank: &mut Bank, space: &mut S) -> Res
     ensures kept { S.frame space.new ≡ S.frame space.old }
 {
     let flags = bank.flags;
-    let mut left = width_of(bank.c);
-    while left > 0 {
-        match field_element(op, bank, space) {
-            Ok(()) => left -= 1,
-            Err(fault) => {
-                bank.flags = flags;
-                return Err(fault);
-            }
+    for _ in 0..width_of(bank.c) {
+        if let Err(fault) = field_element(op, bank, space) {
+            bank.flags = flags;
+            return Err(fault);
         }
     }
     Ok(())

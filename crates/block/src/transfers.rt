@@ -53,6 +53,7 @@ fn convert_element<S: Space>(bank: &mut Bank, space: &mut S) -> Result<u16, Faul
     Ok(byte as u16 + bank.b as u16)
 }
 
+// A match and no closure: there are three kinds, and a closure would have to be asked what it does.
 fn element<S: Space>(kind: Block, bank: &mut Bank, space: &mut S) -> Result<u16, Fault>
     ensures all { after result bank.new (S.cells space.new) ≡ element_by kind bank.old (S.cells space.old) }
     ensures kept { S.frame space.new ≡ S.frame space.old }
@@ -76,24 +77,22 @@ pub fn run_block<S: Space>(kind: Block, bank: &mut Bank, space: &mut S) -> Resul
     ensures all { after result bank.new (S.cells space.new) ≡ block_of kind bank.old (S.cells space.old) }
     ensures kept { S.frame space.new ≡ S.frame space.old }
 {
-    let mut elements = 0;
-    loop {
-        let sum = element(kind, bank, space)?;
-        elements += 1;
+    let most = u16::from(bank.c.wrapping_sub(1)) + 1;
+    let mut sum = 0;
+    for before in 0..most {
+        sum = element(kind, bank, space)?;
         if sum == 256 {
             finish(bank, sum);
             return Ok(Transfer {
-                elements,
+                elements: before + 1,
                 matched: true,
             });
         }
         bank.c = bank.c.wrapping_sub(1);
-        if bank.c == 0 {
-            finish(bank, sum);
-            return Ok(Transfer {
-                elements,
-                matched: false,
-            });
-        }
     }
+    finish(bank, sum);
+    Ok(Transfer {
+        elements: most,
+        matched: false,
+    })
 }

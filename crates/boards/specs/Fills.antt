@@ -1,8 +1,7 @@
 -- What a fill answers, and the buffer after it.
-use Rattle.std.specs.Prelude.{ℕ, ◌+◌, ◌*◌, Bool, not, ◌&&◌, List, [], ◌∷◌, ◌++◌, length, take, drop, None, ◌==◌, nat_lt}
+use Rattle.std.specs.Prelude.{ℕ, ◌+◌, ◌*◌, Bool, not, ◌&&◌, List, [], ◌∷◌, ◌++◌, length, take, drop, None, ◌==◌, nat_le, nat_lt}
 use Rattle.refusal.specs.declared.Ground.TheVariants.{WrongLength, OutOfRange, NoWrites}
 use Rattle.refusal.specs.Judging.{Judgement, when, at, first, picked, unless_refused}
-use Rattle.memory.specs.Memories.{in_set}
 
 -- The grounds of a fill in their order; the last two have the offset as their place.
 abbrev pub judged_fill : (right closed : Bool) (offset count : ℕ) → Judgement
@@ -16,9 +15,9 @@ judged_fill right closed offset count = first
 abbrev pub placed : List ℕ → ℕ → List ℕ → List ℕ
 placed buffer place bytes = take place buffer ++ (bytes ++ drop (place + length bytes) buffer)
 
--- A fill over a buffer that should have `size` bytes; `closed` is the set of the pages that take no fill.
-abbrev pub fill_answer : (size closed : ℕ) → List ℕ → (page offset : ℕ) → List ℕ → Judgement
-fill_answer size closed buffer page offset bytes = judged_fill (length buffer == size) (in_set closed page) offset (length bytes)
+-- A fill over a buffer that should have so many pages: the others take no fill.
+abbrev pub fill_answer : (pages : ℕ) → List ℕ → (page offset : ℕ) → List ℕ → Judgement
+fill_answer pages buffer page offset bytes = judged_fill (length buffer == pages * 4096) (nat_le pages page) offset (length bytes)
 
 -- The buffer after it: as it was where the fill is refused.
 abbrev pub filled : Judgement → List ℕ → (page offset : ℕ) → List ℕ → List ℕ

@@ -1,3 +1,4 @@
 pub mod Fills
 pub mod Boards
+pub mod Singles
 pub mod Twins

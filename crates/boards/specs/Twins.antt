@@ -1,7 +1,6 @@
 -- What the twin board means as a memory.
 use Rattle.std.specs.Prelude.{ℕ, ◌-◌, Bool, cond, not, ◌&&◌, List, length, ◌==◌, nat_lt, slice_index}
 use Rattle.memory.specs.Memories.{Mem, in_set}
-use Rattle.boards.specs.declared.twin.TwinBoard.{TwinBoard}
 
 -- Of either buffer.
 abbrev pub twin_size : ℕ
@@ -20,6 +19,3 @@ twin_mem lower upper sealed = record {
   byte = λ k. cond (both_right lower upper) (cond (nat_lt k twin_size) (slice_index lower k) (slice_index upper (k - twin_size))) 0;
   takes = λ p. both_right lower upper && (not (upper_page p) && not (in_set sealed p));
 }
-
-abbrev pub twin_shows : TwinBoard → Mem
-twin_shows board = twin_mem board.lower.now board.upper.now board.sealed.mask

@@ -1,5 +1,5 @@
-// What filling is on every board.
-ghost use Rattle.std.specs.Prelude.{◌≡◌, ℕ, ◌+◌, ◌≤◌, Bool, length};
+// A fill: when it is refused, and where its bytes go.
+ghost use Rattle.std.specs.Prelude.{◌≡◌, ℕ, ◌+◌, ◌<◌, ◌≤◌, Bool, length};
 ghost use Rattle.boards.specs.Fills.{judged_fill, placed};
 
 use refusal::{Ground, Refusal};
@@ -20,10 +20,12 @@ pub(crate) fn judge(right: bool, closed: bool, offset: u16, bytes: &[u8]) -> Res
     Ok(())
 }
 
-// Puts the bytes from a place of the buffer on.
+// Puts the bytes from a place of the buffer on. With no bytes the place may lie past the end.
 pub(crate) fn place(buffer: &mut [u8], at: usize, bytes: &[u8])
-    requires { at + length bytes.now ≤ length buffer.old }
+    requires { 0 < length bytes.now → at + length bytes.now ≤ length buffer.old }
     ensures { buffer.new ≡ placed buffer.old at bytes.now }
 {
-    buffer[at..at + bytes.len()].copy_from_slice(bytes);
+    if !bytes.is_empty() {
+        buffer[at..at + bytes.len()].copy_from_slice(bytes);
+    }
 }

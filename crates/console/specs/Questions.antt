@@ -6,7 +6,9 @@ use Rattle.decode.specs.Lengths.{length_of}
 use Rattle.script.specs.declared.commands.Question.{Question}
 use Rattle.script.specs.declared.commands.Question.TheVariants.{Read, Takes, Hash, Length, Image}
 use Rattle.console.specs.declared.answers.Answer.{Answer}
-use Rattle.console.specs.declared.answers.Answer.TheVariants.{Number, Refused}
+use Rattle.console.specs.declared.answers.Answer.TheVariants.{Number}
+use Rattle.console.specs.declared.answers.Denial.{Denial}
+use Rattle.console.specs.declared.answers.Denial.TheVariants.{Refused}
 
 abbrev pub hash_step : ℕ → ℕ → ℕ
 hash_step h b = (bit_xor h b * 1099511628211) % 2 ^ 64
@@ -17,14 +19,14 @@ hash_of f zero = 14695981039346656037
 hash_of f (suc n) = hash_step (hash_of f n) (f n)
 
 -- Whether a page takes writes, as 1 or 0, or the refusal of its number.
-abbrev pub takes_answer : Mem → Result ℕ Refusal → Answer
-takes_answer m (Ok p) = Number (cond (m.takes p) 1 0)
-takes_answer m (Err e) = Refused e
+abbrev pub takes_answer : Mem → Result ℕ Refusal → Result Answer Denial
+takes_answer m (Ok p) = Ok (Number (cond (m.takes p) 1 0))
+takes_answer m (Err e) = Err (Refused e)
 
 -- The answer to each question but that on an image, of which nothing is said here.
-abbrev pub Asked : Question → Mem → Answer → Type 0
-Asked (Read at) m r = r ≡ Number (m.byte at)
+abbrev pub Asked : Question → Mem → Result Answer Denial → Type 0
+Asked (Read at) m r = r ≡ Ok (Number (m.byte at))
 Asked (Takes page) m r = r ≡ takes_answer m (sixteenth page)
-Asked Hash m r = r ≡ Number (hash_of m.byte 65536)
-Asked (Length code) m r = r ≡ Number (length_of code)
+Asked Hash m r = r ≡ Ok (Number (hash_of m.byte 65536))
+Asked (Length code) m r = r ≡ Ok (Number (length_of code))
 Asked (Image bytes) m r = Unit {0}

@@ -1,12 +1,17 @@
 // What a command is answered, and the line that is printed for it.
-use image::Block;
-use model::job::{State, Status};
+ghost use Rattle.std.specs.Prelude.{◌≡◌, Some};
+ghost use Rattle.console.specs.declared.answers.Denial.TheVariants.{Refused, Error};
+ghost use Rattle.console.specs.Lines.{run_line, block_line};
+ghost use Rattle.script.specs.declared.faults.Fault.TheVariants.{NoSuchReceipt};
+
+use desk::desk::NotHeld;
+use model::job::State;
 use refusal::Refusal;
-use registers::bank::Bank;
-use registers::processor::Mode;
+use registers::bank::{Bank, Flags};
 use runs::Ran;
 use script::faults::Fault;
 use std::fmt;
+use thiserror::Error;
 
 // A block of an image, without its bytes.
 #[derive(Clone, Copy)]
@@ -32,6 +37,7 @@ pub struct Read {
     pub blocks: Vec<Placed>,
 }
 
+// What a command that was done is answered.
 #[derive(Drop)]
 pub enum Answer {
     Done,
@@ -40,85 +46,90 @@ pub enum Answer {
     Told(State),
     Number(u64),
     Image(Read),
+}
+
+// Why a command was not done: it was refused, or its line is no call.
+#[derive(Clone, Copy, PartialEq, Eq, Debug, Error)]
+pub enum Denial {
+    #[error("{0}")]
     Refused(Refusal),
+    #[error("error {0}")]
     Error(Fault),
 }
 
-fn status_word(status: Status) -> &'static str {
-    match status {
-        Status::Closed => "closed",
-        Status::Ready => "ready",
-        Status::Waiting => "waiting",
-        Status::Ended => "ended",
+// `From` is written out: a derived one has no contract, and the clauses of the calls say which error a `?` makes.
+impl From<Refusal> for Denial {
+    ghost from_gives = { λ e d. d ≡ Refused e };
+
+    fn from(refusal: Refusal) -> Denial {
+        Denial::Refused(refusal)
     }
 }
 
-fn mode_word(mode: Mode) -> &'static str {
-    match mode {
-        Mode::Alpha => "alpha",
-        Mode::Beta => "beta",
+impl From<Fault> for Denial {
+    ghost from_gives = { λ e d. d ≡ Error e };
+
+    fn from(fault: Fault) -> Denial {
+        Denial::Error(fault)
     }
 }
 
-// A flag as 0 or 1.
-fn bit(flag: bool) -> u8 {
-    if flag { 1 } else { 0 }
+// A receipt that the desk does not hold is an error of the script.
+impl From<NotHeld> for Denial {
+    ghost from_gives = { λ _ d. d ≡ Error NoSuchReceipt };
+
+    fn from(_: NotHeld) -> Denial {
+        Denial::Error(Fault::NoSuchReceipt)
+    }
 }
 
+// `State`, `Bank` and `Vec` are of other crates, so what prints them here are functions and no `Display`; so is what goes over a list,
+// of which no contract says what it prints.
 fn write_bank<W: fmt::Write>(bank: &Bank, f: &mut fmt::Formatter<W>) -> fmt::Result {
-    let a = bank.a;
-    let b = bank.b;
-    let c = bank.c;
-    let d = bank.d;
-    let e = bank.e;
-    let h = bank.h;
-    let l = bank.l;
-    let x = bank.x;
+    let Bank {
+        a,
+        b,
+        c,
+        d,
+        e,
+        h,
+        l,
+        x,
+        flags,
+    } = *bank;
     write!(f, " {a} {b} {c} {d} {e} {h} {l} {x}")?;
-    let carry = bit(bank.flags.carry);
-    let zero = bit(bank.flags.zero);
-    let sign = bit(bank.flags.sign);
-    let parity = bit(bank.flags.parity);
-    write!(f, " {carry} {zero} {sign} {parity}")
-}
-
-fn write_stack<W: fmt::Write>(state: &State, f: &mut fmt::Formatter<W>) -> fmt::Result {
-    let top = state.processor.stack.top;
-    write!(f, " top {top} stack")?;
-    for entry in state.processor.stack.entries {
-        write!(f, " {entry}")?;
+    let Flags {
+        carry,
+        zero,
+        sign,
+        parity,
+    } = flags;
+    for flag in [carry, zero, sign, parity] {
+        write!(f, " {}", u8::from(flag))?;
     }
     Ok(())
 }
 
 fn write_state<W: fmt::Write>(state: &State, f: &mut fmt::Formatter<W>) -> fmt::Result {
-    let status = status_word(state.status);
-    let mode = mode_word(state.processor.mode);
+    let status = state.status;
+    let mode = state.processor.mode;
     let p = state.processor.p;
-    let interrupts = bit(state.processor.interrupts);
+    let interrupts = u8::from(state.processor.interrupts);
     write!(f, "ok {status} {mode} p {p} int {interrupts} alpha")?;
     write_bank(&state.processor.alpha, f)?;
     write!(f, " beta")?;
     write_bank(&state.processor.beta, f)?;
-    write_stack(state, f)?;
-    let steps = state.steps;
-    let time = state.time;
-    let calls = state.calls;
-    write!(f, " steps {steps} time {time} calls {calls}")
-}
-
-fn write_run<W: fmt::Write>(finished: &Finished, f: &mut fmt::Formatter<W>) -> fmt::Result {
-    let stop = finished.run.stop.number();
-    let steps = finished.run.steps;
-    let time = finished.run.time;
-    write!(f, "ok stop {stop} steps {steps} time {time}")?;
-    match finished.owed {
-        Some(number) => {
-            let job = finished.job;
-            write!(f, " receipt {job} {number}")
-        }
-        None => Ok(()),
+    write!(f, " top {} stack", state.processor.stack.top)?;
+    for entry in state.processor.stack.entries {
+        write!(f, " {entry}")?;
     }
+    let State {
+        steps,
+        time,
+        calls,
+        ..
+    } = state;
+    write!(f, " steps {steps} time {time} calls {calls}")
 }
 
 fn write_bytes<W: fmt::Write>(bytes: &[u8], f: &mut fmt::Formatter<W>) -> fmt::Result {
@@ -129,18 +140,39 @@ fn write_bytes<W: fmt::Write>(bytes: &[u8], f: &mut fmt::Formatter<W>) -> fmt::R
     Ok(())
 }
 
+// As `stop 3 steps 12 time 20000 receipt 0 1`.
+impl fmt::Display for Finished {
+    ghost output = { λ finished. Some (run_line finished) };
+
+    fn fmt<W: fmt::Write>(&self, f: &mut fmt::Formatter<W>) -> fmt::Result {
+        let Finished { job, run, owed } = self;
+        let stop = run.stop.number();
+        write!(f, "stop {stop} steps {} time {}", run.steps, run.time)?;
+        match owed {
+            Some(number) => write!(f, " receipt {job} {number}"),
+            None => Ok(()),
+        }
+    }
+}
+
+// As `22 0 5`.
+impl fmt::Display for Placed {
+    ghost output = { λ placed. Some (block_line placed) };
+
+    fn fmt<W: fmt::Write>(&self, f: &mut fmt::Formatter<W>) -> fmt::Result {
+        let Placed { offset, at, length } = self;
+        write!(f, "{offset} {at} {length}")
+    }
+}
+
 fn write_image<W: fmt::Write>(image: &Read, f: &mut fmt::Formatter<W>) -> fmt::Result {
     write!(f, "ok table")?;
     for entry in image.table {
         write!(f, " {entry}")?;
     }
-    let start = image.start;
-    write!(f, " start {start} blocks")?;
-    for block in image.blocks.iter() {
-        let offset = block.offset;
-        let at = block.at;
-        let length = block.length;
-        write!(f, " {offset} {at} {length}")?;
+    write!(f, " start {} blocks", image.start)?;
+    for block in &image.blocks {
+        write!(f, " {block}")?;
     }
     Ok(())
 }
@@ -149,13 +181,11 @@ impl fmt::Display for Answer {
     fn fmt<W: fmt::Write>(&self, f: &mut fmt::Formatter<W>) -> fmt::Result {
         match self {
             Answer::Done => write!(f, "ok"),
-            Answer::Ran(finished) => write_run(finished, f),
+            Answer::Ran(finished) => write!(f, "ok {finished}"),
             Answer::Saw(bytes) => write_bytes(bytes, f),
             Answer::Told(state) => write_state(state, f),
             Answer::Number(number) => write!(f, "ok {number}"),
             Answer::Image(image) => write_image(image, f),
-            Answer::Refused(refusal) => write!(f, "{refusal}"),
-            Answer::Error(fault) => write!(f, "error {fault}"),
         }
     }
 }

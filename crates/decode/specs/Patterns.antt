@@ -49,6 +49,11 @@ first_after_of (Some s.H) d l = Err NotCarried
 first_after_of (Some s.L) d l = Err NotCarried
 first_after_of (Some s.X) d l = Err NotCarried
 
+-- What there is, or no instruction that is carried.
+abbrev pub carried : Option Pair → Result Pair Fault
+carried (Some p) = Ok p
+carried None = Err NotCarried
+
 -- The instruction of the pair, if the selecting byte selects one.
 abbrev pub paired : (Pair → Instruction) → Option Pair → Answer
 paired f (Some p) = Ok (f p)

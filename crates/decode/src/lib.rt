@@ -1,9 +1,9 @@
 // From an op code, and the selecting byte before it, to an instruction or a fault.
 #![tactic(auto)]
 
-ghost use Rattle.std.specs.Prelude.{◌≡◌, ℕ, ◌/◌, ◌%◌, ◌<◌, ◌≤◌};
+ghost use Rattle.std.specs.Prelude.{◌≡◌, ℕ, ◌/◌, ◌%◌};
 ghost use Rattle.decode.specs.Digits.{register_of, flag_of, operation_of, source_of, selector_of, implied_by, pair_by};
-ghost use Rattle.decode.specs.Patterns.{first_plain_of, first_after_of, first_of, second_of, last_of, decode_of};
+ghost use Rattle.decode.specs.Patterns.{carried, first_plain_of, first_after_of, first_of, second_of, last_of, decode_of};
 
 pub mod instruction;
 pub mod lengths;
@@ -13,8 +13,8 @@ use instruction::{Instruction, Selector, Source};
 use registers::bank::{Flag, Pair, Register};
 use stop::Fault;
 
+// What a digit names. These are no `From<u8>`: a number by itself names no register.
 fn register_at(digit: u8) -> Register
-    requires { digit < 8 }
     ensures { result ≡ register_of digit }
 {
     match digit {
@@ -30,7 +30,6 @@ fn register_at(digit: u8) -> Register
 }
 
 fn flag_at(digit: u8) -> Flag
-    requires { digit < 4 }
     ensures { result ≡ flag_of digit }
 {
     match digit {
@@ -42,7 +41,6 @@ fn flag_at(digit: u8) -> Flag
 }
 
 fn operation_at(digit: u8) -> Operation
-    requires { digit < 8 }
     ensures { result ≡ operation_of digit }
 {
     match digit {
@@ -58,12 +56,11 @@ fn operation_at(digit: u8) -> Operation
 }
 
 fn source_at(digit: u8) -> Source
-    requires { digit < 8 }
     ensures { result ≡ source_of digit }
 {
     match digit {
-        7 => Source::Memory,
-        _ => Source::Register(register_at(digit)),
+        0..=6 => Source::Register(register_at(digit)),
+        _ => Source::Memory,
     }
 }
 
@@ -100,125 +97,118 @@ fn implied(selector: Option<Selector>) -> Register
 }
 
 // The pair that an instruction implies: HL without a selecting byte. Only three of these select one.
-fn implied_pair(selector: Option<Selector>) -> Option<Pair>
-    ensures { result ≡ pair_by selector }
+fn implied_pair(selector: Option<Selector>) -> Result<Pair, Fault>
+    ensures { result ≡ carried (pair_by selector) }
 {
     match selector {
-        None => Some(Pair::HL),
-        Some(Selector::C) => Some(Pair::BC),
-        Some(Selector::E) => Some(Pair::DE),
-        Some(Selector::X) => Some(Pair::XA),
-        Some(_) => None,
-    }
-}
-
-// Op codes 000 to 077 without a selecting byte, of those that have no form with one.
-fn decode_first_plain(op: u8) -> Result<Instruction, Fault>
-    requires { op < 64 }
-    ensures { result ≡ first_plain_of (op / 8) (op % 8) }
-{
-    match op {
-        0o000 | 0o001 => Ok(Instruction::Halt),
-        0o007 => Ok(Instruction::Return),
-        0o011 => Ok(Instruction::FieldAdd),
-        0o020 => Ok(Instruction::SelectBeta),
-        0o021 => Ok(Instruction::BlockTransfer),
-        0o030 => Ok(Instruction::SelectAlpha),
-        0o031 => Ok(Instruction::FieldSubtract),
-        0o040 => Ok(Instruction::DisableInterrupts),
-        0o050 => Ok(Instruction::EnableInterrupts),
-        0o051 => Ok(Instruction::PushImmediate),
-        0o052 => Ok(Instruction::Break),
-        0o067 => Ok(Instruction::CallSystem),
-        // the load of the sector table
-        0o077 => Err(Fault::Privileged),
-        0o000..=0o077 if op % 8 == 3 => Ok(Instruction::ReturnIf(flag_at(op / 8 % 4), op / 8 >= 4)),
-        0o000..=0o077 if op % 8 == 6 => Ok(Instruction::LoadImmediate(register_at(op / 8))),
-        _ => Err(Fault::NotCarried),
-    }
-}
-
-// Op codes 000 to 077, of those that mean another thing after a selecting byte, or nothing.
-fn decode_first_after(selector: Option<Selector>, op: u8) -> Result<Instruction, Fault>
-    requires { op < 64 }
-    ensures { result ≡ first_after_of selector (op / 8) (op % 8) }
-{
-    match selector {
-        None => decode_first_plain(op),
-        Some(Selector::B) if op == 0o021 => Ok(Instruction::BlockTransferReverse),
-        Some(Selector::C) if op == 0o021 => Ok(Instruction::BlockConvert),
+        None => Ok(Pair::HL),
+        Some(Selector::C) => Ok(Pair::BC),
+        Some(Selector::E) => Ok(Pair::DE),
+        Some(Selector::X) => Ok(Pair::XA),
         Some(_) => Err(Fault::NotCarried),
     }
 }
 
-// Op codes 000 to 077.
-fn decode_first(selector: Option<Selector>, op: u8) -> Result<Instruction, Fault>
-    requires { op < 64 }
-    ensures { result ≡ first_of selector (op / 8) (op % 8) }
-{
-    match op {
-        0o002 => Ok(Instruction::Shift(Shift::LeftCircular, implied(selector))),
-        0o012 => Ok(Instruction::Shift(Shift::RightCircular, implied(selector))),
-        0o032 => Ok(Instruction::Shift(Shift::RightExtended, implied(selector))),
-        0o060 => match implied_pair(selector) {
-            Some(pair) => Ok(Instruction::Pop(pair)),
-            None => Err(Fault::NotCarried),
-        },
-        0o070 => match implied_pair(selector) {
-            Some(pair) => Ok(Instruction::Push(pair)),
-            None => Err(Fault::NotCarried),
-        },
-        // the load of the base register
-        0o072 => Err(Fault::Privileged),
-        0o000..=0o077 if op % 8 == 4 => {
-            Ok(Instruction::Operate(operation_at(op / 8), Source::Immediate, implied(selector)))
+// The two lower octal digits of an op code, d and l, and what the selecting byte before it selects.
+#[derive(Clone, Copy)]
+struct Code {
+    selector: Option<Selector>,
+    d: u8,
+    l: u8,
+}
+
+impl Code {
+    // 0dl without a selecting byte, of those that have no form with one.
+    fn decode_first_plain(self) -> Result<Instruction, Fault>
+        ensures { result ≡ first_plain_of self.d self.l }
+    {
+        match (self.d, self.l) {
+            (0, 0 | 1) => Ok(Instruction::Halt),
+            (0, 7) => Ok(Instruction::Return),
+            (1, 1) => Ok(Instruction::FieldAdd),
+            (2, 0) => Ok(Instruction::SelectBeta),
+            (2, 1) => Ok(Instruction::BlockTransfer),
+            (3, 0) => Ok(Instruction::SelectAlpha),
+            (3, 1) => Ok(Instruction::FieldSubtract),
+            (4, 0) => Ok(Instruction::DisableInterrupts),
+            (5, 0) => Ok(Instruction::EnableInterrupts),
+            (5, 1) => Ok(Instruction::PushImmediate),
+            (5, 2) => Ok(Instruction::Break),
+            (6, 7) => Ok(Instruction::CallSystem),
+            // the load of the sector table
+            (7, 7) => Err(Fault::Privileged),
+            (d, 3) => Ok(Instruction::ReturnIf(flag_at(d % 4), d >= 4)),
+            (d, 6) => Ok(Instruction::LoadImmediate(register_at(d))),
+            _ => Err(Fault::NotCarried),
         }
-        _ => decode_first_after(selector, op),
     }
-}
 
-// Op codes 100 to 177.
-fn decode_second(selector: Option<Selector>, op: u8) -> Result<Instruction, Fault>
-    requires { (64 ≤ op) × (op < 128) }
-    ensures { result ≡ second_of selector (op / 8 % 8) (op % 8) }
-{
-    let middle = op / 8 % 8;
-    match op {
-        // INPUT and PIN
-        0o101 | 0o103 => Err(Fault::Privileged),
-        // EX
-        0o121..=0o153 if op % 2 == 1 => Err(Fault::Privileged),
-        _ if selector.is_some() => Err(Fault::NotCarried),
-        0o104 => Ok(Instruction::Jump),
-        0o106 => Ok(Instruction::Call),
-        0o100..=0o177 if op % 8 == 0 => Ok(Instruction::JumpIf(flag_at(middle % 4), middle >= 4)),
-        0o100..=0o177 if op % 8 == 2 => Ok(Instruction::CallIf(flag_at(middle % 4), middle >= 4)),
-        _ => Err(Fault::NotCarried),
+    // 0dl, of those that mean another thing after a selecting byte, or nothing.
+    fn decode_first_after(self) -> Result<Instruction, Fault>
+        ensures { result ≡ first_after_of self.selector self.d self.l }
+    {
+        match (self.selector, self.d, self.l) {
+            (None, _, _) => self.decode_first_plain(),
+            (Some(Selector::B), 2, 1) => Ok(Instruction::BlockTransferReverse),
+            (Some(Selector::C), 2, 1) => Ok(Instruction::BlockConvert),
+            (Some(_), _, _) => Err(Fault::NotCarried),
+        }
     }
-}
 
-// Op codes 300 to 377.
-fn decode_last(selector: Option<Selector>, op: u8) -> Result<Instruction, Fault>
-    requires { 192 ≤ op }
-    ensures { result ≡ last_of selector (op / 8 % 8) (op % 8) }
-{
-    let middle = op / 8 % 8;
-    let low = op % 8;
-    match (selector, implied_pair(selector)) {
-        (None, _) if op == 0o377 => Ok(Instruction::Halt),
-        (None, _) if middle < 7 && low < 7 => Ok(Instruction::Load(
-            register_at(middle),
-            register_at(low),
-        )),
-        (_, Some(pair)) if middle < 7 && low == 7 => Ok(Instruction::LoadFromMemory(
-            register_at(middle),
-            pair,
-        )),
-        (_, Some(pair)) if middle == 7 && low < 7 => Ok(Instruction::StoreToMemory(
-            register_at(low),
-            pair,
-        )),
-        _ => Err(Fault::NotCarried),
+    // 0dl
+    fn decode_first(self) -> Result<Instruction, Fault>
+        ensures { result ≡ first_of self.selector self.d self.l }
+    {
+        let register = implied(self.selector);
+        match (self.d, self.l) {
+            (0, 2) => Ok(Instruction::Shift(Shift::LeftCircular, register)),
+            (1, 2) => Ok(Instruction::Shift(Shift::RightCircular, register)),
+            (3, 2) => Ok(Instruction::Shift(Shift::RightExtended, register)),
+            (6, 0) => Ok(Instruction::Pop(implied_pair(self.selector)?)),
+            (7, 0) => Ok(Instruction::Push(implied_pair(self.selector)?)),
+            // the load of the base register
+            (7, 2) => Err(Fault::Privileged),
+            (d, 4) => Ok(Instruction::Operate(operation_at(d), Source::Immediate, register)),
+            _ => self.decode_first_after(),
+        }
+    }
+
+    // 1dl
+    fn decode_second(self) -> Result<Instruction, Fault>
+        ensures { result ≡ second_of self.selector self.d self.l }
+    {
+        match (self.d, self.l) {
+            // INPUT and PIN
+            (0, 1 | 3) => Err(Fault::Privileged),
+            // EX
+            (2..=4, _) | (5, 1 | 3) if self.l % 2 == 1 => Err(Fault::Privileged),
+            _ if self.selector.is_some() => Err(Fault::NotCarried),
+            (0, 4) => Ok(Instruction::Jump),
+            (0, 6) => Ok(Instruction::Call),
+            (d, 0) => Ok(Instruction::JumpIf(flag_at(d % 4), d >= 4)),
+            (d, 2) => Ok(Instruction::CallIf(flag_at(d % 4), d >= 4)),
+            _ => Err(Fault::NotCarried),
+        }
+    }
+
+    // 3dl
+    fn decode_last(self) -> Result<Instruction, Fault>
+        ensures { result ≡ last_of self.selector self.d self.l }
+    {
+        match (self.selector, self.d, self.l) {
+            (None, 7, 7) => Ok(Instruction::Halt),
+            (Some(_), 7, 7) => Err(Fault::NotCarried),
+            (selector, d, 7) => Ok(Instruction::LoadFromMemory(
+                register_at(d),
+                implied_pair(selector)?,
+            )),
+            (selector, 7, l) => Ok(Instruction::StoreToMemory(
+                register_at(l),
+                implied_pair(selector)?,
+            )),
+            (None, d, l) => Ok(Instruction::Load(register_at(d), register_at(l))),
+            (Some(_), _, _) => Err(Fault::NotCarried),
+        }
     }
 }
 
@@ -226,16 +216,19 @@ fn decode_last(selector: Option<Selector>, op: u8) -> Result<Instruction, Fault>
 pub fn decode(selector: Option<Selector>, op: u8) -> Result<Instruction, Fault>
     ensures { result ≡ decode_of selector op }
 {
+    let code = Code {
+        selector,
+        d: op / 8 % 8,
+        l: op % 8,
+    };
     match op {
-        0o000..=0o077 => decode_first(selector, op),
-        0o100..=0o177 => decode_second(selector, op),
-        0o200..=0o277 => {
-            Ok(Instruction::Operate(
-                operation_at(op / 8 % 8),
-                source_at(op % 8),
-                implied(selector),
-            ))
-        }
-        0o300..=0o377 => decode_last(selector, op),
+        0o000..=0o077 => code.decode_first(),
+        0o100..=0o177 => code.decode_second(),
+        0o200..=0o277 => Ok(Instruction::Operate(
+            operation_at(code.d),
+            source_at(code.l),
+            implied(selector),
+        )),
+        0o300..=0o377 => code.decode_last(),
     }
 }

@@ -1,5 +1,5 @@
 -- What each call of the engine does to what is owed.
-use Rattle.std.proofs.Common.{◌≡◌, ℕ, zero, suc, ◌<◌, Bool, true, false, cond, not, eqb, List, length, get_or, set, replicate, Some, None, Ok, Err, Option, sym, refl, ap, ◌∙◌, subst, ap₂, arith, eq-eqb, eqb-true}
+use Rattle.std.proofs.Common.{◌≡◌, ℕ, zero, suc, ◌<◌, Bool, true, false, cond, not, eqb, List, length, get_or, set, replicate, Some, None, Ok, Err, Option, Result, IsOk, sym, refl, ap, ◌∙◌, subst, ap₂, arith, eq-eqb, eqb-true}
 use Rattle.refusal.specs.declared.Ground.TheVariants.{JobWaiting, AlreadyOpen}
 use Rattle.refusal.specs.declared.Refusal.{Refusal}
 use Rattle.refusal.specs.Judging.{Judgement, when}
@@ -10,7 +10,7 @@ use Rattle.stop.specs.declared.Stop.TheVariants.{Limit, Trapped, Faulted}
 use Rattle.runs.specs.declared.Ran.{Ran}
 use Rattle.runs.specs.Runs.{Over, run_of}
 use Rattle.pages.specs.Held.{Table}
-use Rattle.pages.proofs.Truths.{both}
+use Rattle.std.proofs.lemmas.Bool.{and_from}
 use Rattle.model.specs.declared.job.Job.{Job}
 use Rattle.model.specs.declared.job.Status.{Status}
 use Rattle.model.specs.declared.job.Status.TheVariants.{Closed, Ready, Waiting, Ended}
@@ -20,11 +20,14 @@ use Rattle.model.specs.Acts.{no_such_job, not_open, waits, owed_by, ran_left, ju
 use Rattle.model.specs.Worlds.{World, Done, jobs_of, no_job, space_at, upd, settle, judge_open, unless_open, does}
 use Rattle.model.proofs.Settling.{upd_same, refuses, accepts}
 use Rattle.engine.specs.declared.receipt.Receipt.{Receipt}
-use Rattle.engine.specs.Answers.{owed_of}
+use Rattle.engine.specs.declared.receipt.Returned.{Returned}
+use Rattle.engine.specs.Answers.{owed_of, returned_answer}
 use Rattle.refusal.proofs.Judgements.{passed, when_no}
 use Rattle.engine.proofs.Judged.{seated}
 use Rattle.desk.specs.Owing.{owed_to, released}
-use Rattle.desk.proofs.Owing.{Waits, Taken, Owes, held_waits, accepted, idle_kept, all_kept}
+use Rattle.desk.specs.Held.{fitting}
+use Rattle.desk.proofs.Owing.{Waits, Taken, Owes, held_waits, accepted, taken, refused_receipt, idle_kept, all_kept}
+use Rattle.model.proofs.Answers.{refused_done, refused_ran}
 
 shut_idle : (s : Status) → is_open s ≡ false → is_waiting s ≡ false
 shut_idle Closed h = refl
@@ -94,12 +97,6 @@ new_keeps f rs ef er k =
     subst (λ (x : Option Receipt). owed_to k (f k) x ≡ true) (sym (ap (λ (l : List (Option Receipt)). get_or l k None) er ∙ no_place 8 k))
     (ap not (ap (λ (g : ℕ → Job). is_waiting (g k).status) ef ∙ new_seat 8 k))
 
-refused_ran : {A : Type 0} (e : Refusal) (r : Ran) (o : Option Owed) → refused e ≡ ran r o → A
-refused_ran e r o p = absurd (let z : ◌≡◌ {A = ℕ} 0 1 = cc in omega arith)
-
-refused_done : {A : Type 0} (e : Refusal) → refused e ≡ done → A
-refused_done e p = absurd (let z : ◌≡◌ {A = ℕ} 0 1 = cc in omega arith)
-
 job_in : Option Owed → ℕ
 job_in None = 0
 job_in (Some o) = o.job
@@ -117,7 +114,7 @@ by_trap_lem j b SystemCall None s p = absurd (let z : ◌≡◌ {A = ℕ} 0 1 = 
 by_trap_lem j b SystemCall (Some r) s p =
     let job : r.job ≡ j = ap job_in p in
     let number : r.number ≡ b.calls = ap call_in p in
-    both (is_waiting b.status) _ (ap is_waiting s) (both (eqb r.job j) _ (eq-eqb r.job j job) (eq-eqb r.number b.calls number))
+    and_from (is_waiting b.status) _ (ap is_waiting s) (and_from (eqb r.job j) _ (eq-eqb r.job j job) (eq-eqb r.number b.calls number))
 by_trap_lem j b Breakpoint None s p = ap (λ (u : Status). not (is_waiting u)) s
 by_trap_lem j b Breakpoint (Some r) s p = absurd (let z : ◌≡◌ {A = ℕ} 0 1 = cc in omega arith)
 
@@ -172,26 +169,36 @@ module _ (j : ℕ) (x : Ask) (w v : World) (judged : judge_ask j x (w.jobs j) (s
   pub puts : (a : Answer) → does (asks j x) w ≡ record { world = v; answer = a } → v.jobs ≡ upd w.jobs j (effect_of j x (w.jobs j) (space_at w j)).job
   puts a p = ap (λ (y : Done). y.world.jobs) (sym p ∙ accepts j x w judged)
 
--- A call with a receipt that was taken out: a reply or an abandoning.
-module _ (ask : ℕ → Ask) (w v : World) (rs : List (Option Receipt)) (j n : ℕ) (r : Receipt) (a : Answer)
-    (t : Taken w.jobs rs j n r) (p : does (asks r.job (ask r.number)) w ≡ record { world = v; answer = a }) where
-  here : does (asks j (ask n)) w ≡ record { world = v; answer = a }
-  here = ap₂ (λ i k. does (asks i (ask k)) w) (sym t.job) (sym t.number) ∙ p
+-- A call with a receipt that is taken out: a reply or an abandoning. It is accepted, and the places stay right.
+module _ (ask : ℕ → Ask) (w v : World) (rs : List (Option Receipt)) (j n : ℕ) (r : Receipt) (res : Result (Unit {0}) Returned)
+    (held : (k : ℕ) → owed_to k (w.jobs k) (get_or rs k None) ≡ true) (len : length rs ≡ 8) (fits : Some r ≡ fitting n (get_or rs j None))
+    (p : does (asks r.job (ask r.number)) w ≡ record { world = v; answer = returned_answer res })
+    (judges : judge_ask j (ask n) (w.jobs j) (space_at w j) ≡ judge_receipt j n (w.jobs j)) where
+  out : Taken w.jobs rs j n r
+  out = taken w.jobs rs j n r held len fits
 
-  pub receipt_world : v ≡ (does (asks j (ask n)) w).world
-  receipt_world = sym (ap (λ (d : Done). d.world) here)
+  here : does (asks j (ask n)) w ≡ record { world = v; answer = returned_answer res }
+  here = ap₂ (λ i k. does (asks i (ask k)) w) (sym out.job) (sym out.number) ∙ p
 
-  module _ (judges : judge_ask j (ask n) (w.jobs j) (space_at w j) ≡ judge_receipt j n (w.jobs j)) where
-    pub receipt_kept : (qs : List (Option Receipt)) → is_waiting (effect_of j (ask n) (w.jobs j) (space_at w j)).job.status ≡ false
-        → ((k : ℕ) → owed_to k (w.jobs k) (get_or rs k None) ≡ true) → length rs ≡ 8 → qs ≡ set rs j None
-        → (k : ℕ) → owed_to k (v.jobs k) (get_or qs k None) ≡ true
-    receipt_kept qs idle h len e =
-        all_kept w.jobs v.jobs rs qs j (effect_of j (ask n) (w.jobs j) (space_at w j)).job None h
-        (let low : j < 8 = t.low in omega (arith, len)) (puts j (ask n) w v (judges ∙ t.judged) a here) e (ap not idle)
+  pub receipt_kept : (qs : List (Option Receipt)) → is_waiting (effect_of j (ask n) (w.jobs j) (space_at w j)).job.status ≡ false
+      → qs ≡ set rs j None → (k : ℕ) → owed_to k (v.jobs k) (get_or qs k None) ≡ true
+  receipt_kept qs idle e =
+      all_kept w.jobs v.jobs rs qs j (effect_of j (ask n) (w.jobs j) (space_at w j)).job None held
+      (let low : j < 8 = out.low in omega (arith, len)) (puts j (ask n) w v (judges ∙ out.judged) _ here) e (ap not idle)
 
-    pub receipt_accepted : {A : Type 0} (e : Refusal) → a ≡ refused e → (effect_of j (ask n) (w.jobs j) (space_at w j)).answer ≡ done → A
-    receipt_accepted e ea d =
-        not_refused j (ask n) w v (judges ∙ t.judged) e d (here ∙ ap {B = Done} (λ (x : Answer). record { world = v; answer = x }) ea)
+  pub receipt_accepted : (effect_of j (ask n) (w.jobs j) (space_at w j)).answer ≡ done → IsOk res
+  receipt_accepted d = go res refl
+    where
+      go : (x : Result (Unit {0}) Returned) → res ≡ x → IsOk x
+      go (Ok u) e = refl
+      go (Err f) e = not_refused j (ask n) w v (judges ∙ out.judged) f.refusal d (here ∙ ap {B = Done} (λ (x : Result (Unit {0}) Returned). record { world = v; answer = returned_answer x }) e)
+
+-- A call with a receipt that is not held is refused, and changes nothing.
+pub missing_world : (ask : ℕ → Ask) (w : World) (j n : ℕ) (x : Option Receipt) → judge_ask j (ask n) (w.jobs j) (space_at w j) ≡ judge_receipt j n (w.jobs j)
+    → owed_to j (w.jobs j) x ≡ true → None ≡ fitting n x → w ≡ (does (asks j (ask n)) w).world
+missing_world ask w j n x judges held p =
+    let q = refused_receipt j n (w.jobs j) x held p in
+    sym (ap (λ (d : Done). d.world) (refuses j (ask n) w q.0 (judges ∙ q.1)))
 
 -- Abandoning what a job is owed releases it.
 pub release_says : (w v : World) (j n : ℕ) → Owes (w.jobs j) j n → v ≡ (does (asks j (abandons n)) w).world

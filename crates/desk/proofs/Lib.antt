@@ -1,3 +1,2 @@
 pub mod Owing
-pub mod Places
 pub mod Keeping

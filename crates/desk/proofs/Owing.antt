@@ -1,28 +1,22 @@
 -- What is held for a job, before and after a call.
 use Rattle.std.proofs.Common.{◌≡◌, ℕ, ◌<◌, ◌≤◌, Bool, true, false, cond, not, ◌&&◌, eqb, ltb, ◌≢◌, List, length, get_or, set, Some, None, Ok, Err, Option, sym, refl, ap, ◌∙◌, subst, arith, get_or-set_other, get_or-set_same, ltb-true, eq-eqb, eqb-true}
 use borrow.Author.Tests.{eqb-false}
-use Rattle.std.proofs.lemmas.Bool.{le-ltb, ltb-false}
+use Rattle.std.proofs.lemmas.Bool.{le-ltb, ltb-false, not-true, and_left, and_right, and_parts, and_from}
 use Rattle.refusal.specs.declared.Ground.TheVariants.{NoSuchJob, NotOpen, NotOwed}
 use Rattle.refusal.specs.declared.Refusal.{Refusal}
 use Rattle.refusal.specs.Judging.{Judgement, when, also}
-use Rattle.pages.proofs.Truths.{clash, and_left, and_right, both, by_test}
-use Rattle.memory.specs.Memories.{Mem}
+use Rattle.pages.proofs.Truths.{clash, by_test}
 use Rattle.model.specs.declared.job.Job.{Job}
 use Rattle.model.specs.declared.job.Status.{Status}
 use Rattle.model.specs.declared.job.Status.TheVariants.{Closed, Ready, Waiting, Ended}
-use Rattle.model.specs.Jobs.{is_open, is_waiting, closed_job}
+use Rattle.model.specs.Jobs.{is_open, is_waiting}
 use Rattle.model.specs.Acts.{no_such_job, not_open, not_owed, judge_receipt}
 use Rattle.model.specs.Worlds.{upd}
 use Rattle.engine.specs.declared.receipt.Receipt.{Receipt}
-use Rattle.engine.specs.Answers.{owed_of}
-use Rattle.model.specs.Calls.{Owed}
 use Rattle.desk.specs.Held.{number_in, fitting}
-use Rattle.desk.specs.Owing.{owed_to, owed_as, released}
-use Rattle.desk.proofs.Places.{get_d_past}
-
-not_true : (z : Bool) → not z ≡ true → z ≡ false
-not_true true h = sym h
-not_true false h = refl
+use Rattle.desk.specs.Owing.{owed_to}
+use Rattle.std.proofs.lemmas.List.{get_or_past}
+use Rattle.std.proofs.lemmas.Option.{none-some}
 
 -- What a held receipt says of its job.
 pub record Waits (j : ℕ) (b : Job) (r : Receipt) : Type 0 where
@@ -32,15 +26,12 @@ pub record Waits (j : ℕ) (b : Job) (r : Receipt) : Type 0 where
 
 pub held_waits : (j : ℕ) (b : Job) (r : Receipt) → owed_to j b (Some r) ≡ true → Waits j b r
 held_waits j b r h =
-    let rest = and_right (is_waiting b.status) (eqb r.job j && eqb r.number b.calls) h in
-    record {
-      waiting = and_left (is_waiting b.status) (eqb r.job j && eqb r.number b.calls) h;
-      job = eqb-true r.job j (and_left (eqb r.job j) (eqb r.number b.calls) rest);
-      number = eqb-true r.number b.calls (and_right (eqb r.job j) (eqb r.number b.calls) rest);
-    }
+    let parts = and_parts (is_waiting b.status) (eqb r.job j && eqb r.number b.calls) h in
+    let rest = and_parts (eqb r.job j) (eqb r.number b.calls) parts.1 in
+    record { waiting = parts.0; job = eqb-true r.job j rest.0; number = eqb-true r.number b.calls rest.1 }
 
 pub none_idle : (j : ℕ) (b : Job) → owed_to j b None ≡ true → is_waiting b.status ≡ false
-none_idle j b h = not_true (is_waiting b.status) h
+none_idle j b h = not-true (is_waiting b.status) h
 
 -- A job that waits is open.
 waiting_open : (s : Status) → is_waiting s ≡ true → is_open s ≡ true
@@ -54,7 +45,7 @@ pub accepted : (j n : ℕ) (b : Job) → j < 8 → is_waiting b.status ≡ true 
 accepted j n b low h e =
     ap (λ z. also (when z NoSuchJob) (also (not_open b) (also (not_owed b n) (Ok tt)))) (le-ltb 7 j (let k : j ≤ 7 = omega arith in k))
     ∙ ap (λ z. also (when (not z) NotOpen) (also (not_owed b n) (Ok tt))) (waiting_open b.status h)
-    ∙ ap (λ z. also (when (not z) NotOwed) (Ok tt)) (both (is_waiting b.status) (eqb b.calls n) h (eq-eqb b.calls n (sym e)))
+    ∙ ap (λ z. also (when (not z) NotOwed) (Ok tt)) (and_from (is_waiting b.status) (eqb b.calls n) h (eq-eqb b.calls n (sym e)))
 
 -- And refuses one that is not.
 later : (x y : Judgement) (e : Refusal) → (d : Refusal) × (also x (also y (also (Err e) (Ok tt))) ≡ Err d)
@@ -67,24 +58,14 @@ unowed j n b h =
     let f = later (no_such_job j) (not_open b) (record { ground = NotOwed; place = 0 }) in
     (f.0, ap (λ z. also (no_such_job j) (also (not_open b) (also (when (not z) NotOwed) (Ok tt)))) h ∙ f.1)
 
-and_none : (x y : Bool) → x ≡ false → (x && y) ≡ false
-and_none x y e = ap (λ z. z && y) e
-
-and_last : (x y : Bool) → y ≡ false → (x && y) ≡ false
-and_last true y e = e
-and_last false y e = refl
-
-pub some_none : {A B : Type 0} (x : A) → ◌≡◌ {A = Option A} (Some x) None → B
-some_none x p = absurd (let z : ◌≡◌ {A = ℕ} 0 1 = cc in omega arith)
-
 pub refused_receipt : (j n : ℕ) (b : Job) (x : Option Receipt) → owed_to j b x ≡ true → None ≡ fitting n x → (d : Refusal) × (judge_receipt j n b ≡ Err d)
-refused_receipt j n b None h f = unowed j n b (and_none (is_waiting b.status) (eqb b.calls n) (none_idle j b h))
+refused_receipt j n b None h f = unowed j n b (and_left (is_waiting b.status) (eqb b.calls n) (none_idle j b h))
 refused_receipt j n b (Some r) h f = go (eqb r.number n) refl
   where
     go : (z : Bool) → eqb r.number n ≡ z → (d : Refusal) × (judge_receipt j n b ≡ Err d)
-    go true e = some_none r (sym (f ∙ ap (λ z. cond z (Some r) None) e))
+    go true e = absurd (none-some r (f ∙ ap (λ z. cond z (Some r) None) e))
     go false e =
-        unowed j n b (and_last (is_waiting b.status) (eqb b.calls n) (ap (λ k. eqb k n) (sym (held_waits j b r h).number) ∙ e))
+        unowed j n b (and_right (is_waiting b.status) (eqb b.calls n) (ap (λ k. eqb k n) (sym (held_waits j b r h).number) ∙ e))
 
 -- A receipt that was taken out: its job waits for it, and the engine accepts it.
 pub record Taken (f : ℕ → Job) (rs : List (Option Receipt)) (j n : ℕ) (r : Receipt) : Type 0 where
@@ -94,7 +75,7 @@ pub record Taken (f : ℕ → Job) (rs : List (Option Receipt)) (j n : ℕ) (r :
   pub judged : judge_receipt j n (f j) ≡ Ok tt
 
 fitted : (n : ℕ) (x : Option Receipt) (r : Receipt) → Some r ≡ fitting n x → (x ≡ Some r) × (r.number ≡ n)
-fitted n None r p = some_none r p
+fitted n None r p = absurd (none-some r (sym p))
 fitted n (Some q) r p = go (eqb q.number n) refl
   where
     go : (z : Bool) → eqb q.number n ≡ z → (Some q ≡ Some r) × (r.number ≡ n)
@@ -102,7 +83,7 @@ fitted n (Some q) r p = go (eqb q.number n) refl
         let same : Some r ≡ Some q = p ∙ ap (λ z. cond z (Some q) None) e in
         let is : r ≡ q = cc in
         (sym same, ap (λ (x : Receipt). x.number) is ∙ eqb-true q.number n e)
-    go false e = some_none r (p ∙ ap (λ z. cond z (Some q) None) e)
+    go false e = absurd (none-some r (sym (p ∙ ap (λ z. cond z (Some q) None) e)))
 
 pub taken : (f : ℕ → Job) (rs : List (Option Receipt)) (j n : ℕ) (r : Receipt) → ((k : ℕ) → owed_to k (f k) (get_or rs k None) ≡ true) → length rs ≡ 8
     → Some r ≡ fitting n (get_or rs j None) → Taken f rs j n r
@@ -110,18 +91,8 @@ taken f rs j n r h len p =
     let there = fitted n (get_or rs j None) r p in
     let w : Waits j (f j) r = held_waits j (f j) r (subst (λ (x : Option Receipt). owed_to j (f j) x ≡ true) there.0 (h j)) in
     let low : j < 8 = by_test (ltb j 8) (λ e. ltb-true j 8 e)
-    (λ e. some_none r (sym there.0 ∙ get_d_past rs j None (let k : 8 ≤ j = ltb-false j 8 e in omega (arith, len)))) in
+    (λ e. absurd (none-some r (sym (get_or_past rs j None (let k : 8 ≤ j = ltb-false j 8 e in omega (arith, len))) ∙ there.0))) in
     record { low = low; job = w.job; number = there.1; judged = accepted j n (f j) low w.waiting (sym there.1 ∙ w.number) }
-
--- A job that does not wait is held nothing for.
-pub idle_none : (j : ℕ) (b : Job) (x : Option Receipt) → is_waiting b.status ≡ false → owed_to j b x ≡ true → x ≡ None
-idle_none j b None h e = refl
-idle_none j b (Some r) h e = clash (is_waiting b.status) (held_waits j b r e).waiting h
-
--- A receipt that is held is of its job.
-pub whole_owed : (j : ℕ) (b : Job) (x : Option Receipt) → owed_to j b x ≡ true → owed_as j (number_in x) ≡ owed_of x
-whole_owed j b None h = refl
-whole_owed j b (Some r) h = ap {B = Option Owed} (λ i. Some (record { job = i; number = r.number })) (sym (held_waits j b r h).job)
 
 -- The number that is held is one that the engine accepts.
 pub record Owes (b : Job) (j n : ℕ) : Type 0 where
@@ -133,7 +104,7 @@ pub owes : (f : ℕ → Job) (rs : List (Option Receipt)) (j n : ℕ) → ((k : 
 owes f rs j n h len p = go (get_or rs j None) refl
   where
     go : (x : Option Receipt) → get_or rs j None ≡ x → Owes (f j) j n
-    go None e = some_none n (p ∙ ap number_in e)
+    go None e = absurd (none-some n (sym (p ∙ ap number_in e)))
     go (Some r) e =
         let same : Some n ≡ Some r.number = p ∙ ap number_in e in
         let is : r.number ≡ n = cc in
@@ -142,37 +113,6 @@ owes f rs j n h len p = go (get_or rs j None) refl
           waiting = (held_waits j (f j) r (subst (λ (x : Option Receipt). owed_to j (f j) x ≡ true) e (h j))).waiting;
           judged = (taken f rs j n r h len fits).judged;
         }
-
--- A place past the eighth is empty.
-pub below_eight : (rs : List (Option Receipt)) (j n : ℕ) → length rs ≡ 8 → Some n ≡ number_in (get_or rs j None) → j < 8
-below_eight rs j n len p =
-    by_test (ltb j 8) (λ e. ltb-true j 8 e)
-    (λ e. some_none n (p ∙ ap number_in (get_d_past rs j None (let k : 8 ≤ j = ltb-false j 8 e in omega (arith, len)))))
-
--- A job that is released does not wait, and one that does not wait is released as it is.
-pub released_idle : (b : Job) → is_waiting (released b).status ≡ false
-released_idle b = by_test (is_waiting b.status) (λ e. ap (λ z. is_waiting (cond z closed_job b).status) e) (λ e. ap (λ z. is_waiting (cond z closed_job b).status) e ∙ e)
-
-pub idle_released : (b : Job) → is_waiting b.status ≡ false → released b ≡ b
-idle_released b e = ap (λ z. cond z closed_job b) e
-
--- The places once every job below the eighth is released.
-module _ (f g : ℕ → Job) (rs qs : List (Option Receipt)) (was : (k : ℕ) → owed_to k (f k) (get_or rs k None) ≡ true) (now' : (k : ℕ) → owed_to k (g k) (get_or qs k None) ≡ true)
-    (len : length rs ≡ 8) (len' : length qs ≡ 8) (each : (k : ℕ) → g k ≡ cond (ltb k 8) (released (f k)) (f k)) where
-  pub all_gone : (k : ℕ) → get_or qs k None ≡ None
-  all_gone k =
-      by_test (ltb k 8)
-      (λ e. idle_none k (g k) (get_or qs k None) (ap (λ (b : Job). is_waiting b.status) (each k ∙ ap (λ z. cond z (released (f k)) (f k)) e) ∙ released_idle (f k)) (now' k))
-      (λ e. get_d_past qs k None (let h : 8 ≤ k = ltb-false k 8 e in omega (arith, len')))
-
-  pub all_released : (k : ℕ) → g k ≡ released (f k)
-  all_released k =
-      by_test (ltb k 8)
-      (λ e. each k ∙ ap (λ z. cond z (released (f k)) (f k)) e)
-      (λ e.
-      let past : get_or rs k None ≡ None = get_d_past rs k None (let h : 8 ≤ k = ltb-false k 8 e in omega (arith, len)) in
-      each k ∙ ap (λ z. cond z (released (f k)) (f k)) e
-      ∙ sym (idle_released (f k) (none_idle k (f k) (subst (λ (x : Option Receipt). owed_to k (f k) x ≡ true) past (was k)))))
 
 -- A job that neither waited before nor waits after a call: what is held for it, nothing, is right then too.
 pub idle_kept : (j : ℕ) (b c : Job) (x : Option Receipt) → is_waiting b.status ≡ false → is_waiting c.status ≡ false → owed_to j b x ≡ true → owed_to j c x ≡ true
@@ -200,7 +140,3 @@ all_kept f g rs qs j b x h low eg eq here k = go (eqb k j) refl
         at (f k) (get_or rs k None) (ap (λ (u : ℕ → Job). u k) eg ∙ ap (λ z. cond z b (f k)) e)
         (ap (λ (l : List (Option Receipt)). get_or l k None) eq ∙ get_or-set_other rs j k x None other)
         (h k)
-
--- Any memory: what a call without one answers does not depend on it.
-pub no_mem : Mem
-no_mem = record { byte = λ a. 0; takes = λ p. false }

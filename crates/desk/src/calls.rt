@@ -1,4 +1,5 @@
 // The calls of a desk: those of its engine, with the receipts kept here. A host names a receipt by its job and number.
+// Each says again what its engine's says, and is given the same memory and job, so that a host needs no other page.
 ghost use Rattle.std.specs.Prelude.{◌≡◌, ℕ, ◌<◌, length, if◌then◌else◌, None, OnErr, nat_eq, slice_index_or};
 ghost use Rattle.memory.specs.Memories.{Mem};
 ghost use Rattle.model.specs.Calls.{opens, asks, loads, runs as asks_run, replies, abandons, looks, states, closes};
@@ -106,17 +107,14 @@ impl Desk {
     }
 
     // Replies to the system call with this number, which is accepted. Without its receipt, where the engine would refuse the reply, nothing changes.
+    // `abandon` is the same by another call of the engine: one function for both would take that call and its meaning, for three lines.
     pub fn reply(&mut self, job: u8, number: u32, registers: Registers) -> Result<(), NotHeld>
         ensures world { (m : Mem) → world_of self.new.engine.jobs m ≡ (does (asks job (replies number registers)) (world_of self.old.engine.jobs m)).world }
         ensures answer { result ≡ held_answer (judge_receipt job number (jobs_of self.old.engine.jobs job)) }
     {
-        let Some(receipt) = self.held.take(job, number) else {
-            return Err(NotHeld);
-        };
-        match self.engine.reply(receipt, registers) {
-            Ok(()) => Ok(()),
-            Err(_) => unreachable(),
-        }
+        let receipt = self.held.take(job, number).ok_or(NotHeld)?;
+        self.engine.reply(receipt, registers).unwrap();
+        Ok(())
     }
 
     // Abandons the system call with this number, which is accepted. Without its receipt, where the engine would refuse it, nothing changes.
@@ -124,13 +122,9 @@ impl Desk {
         ensures world { (m : Mem) → world_of self.new.engine.jobs m ≡ (does (asks job (abandons number)) (world_of self.old.engine.jobs m)).world }
         ensures answer { result ≡ held_answer (judge_receipt job number (jobs_of self.old.engine.jobs job)) }
     {
-        let Some(receipt) = self.held.take(job, number) else {
-            return Err(NotHeld);
-        };
-        match self.engine.abandon(receipt) {
-            Ok(()) => Ok(()),
-            Err(_) => unreachable(),
-        }
+        let receipt = self.held.take(job, number).ok_or(NotHeld)?;
+        self.engine.abandon(receipt).unwrap();
+        Ok(())
     }
 
     // Abandons what a job is owed.
@@ -138,22 +132,18 @@ impl Desk {
         ensures { (k : ℕ) → jobs_of self.new.engine.jobs k ≡ (if nat_eq k job then released (jobs_of self.old.engine.jobs k) else jobs_of self.old.engine.jobs k) }
     {
         if let Some(number) = self.owed(job) {
-            match self.abandon(job, number) {
-                Ok(()) => {}
-                Err(_) => unreachable(),
-            }
+            self.abandon(job, number).unwrap();
         }
     }
 
     // Abandons whatever is owed, which is accepted, and gives back the engine: no job of it waits.
-    pub fn finish(self) -> Engine
+    pub fn finish(mut self) -> Engine
         ensures { (k : ℕ) → jobs_of result.jobs k ≡ released (jobs_of self.engine.jobs k) }
     {
-        let mut desk = self;
         for job in 0..8u8 {
-            desk.release(job);
+            self.release(job);
         }
-        let Desk { engine, held } = desk;
+        let Desk { engine, held } = self;
         held.let_go();
         engine
     }

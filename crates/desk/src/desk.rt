@@ -1,3 +1,4 @@
+// An engine together with the receipts that its jobs are owed.
 ghost use Rattle.std.specs.Prelude.{◌≡◌, ℕ, true, None, slice_index_or};
 ghost use Rattle.model.specs.Worlds.{jobs_of};
 ghost use Rattle.desk.specs.Owing.{owed_to};

@@ -3,20 +3,11 @@ ghost use Rattle.std.specs.Prelude.{◌≡◌, ℕ, ◌<◌, length, replicate, 
 ghost use Rattle.desk.specs.Held.{number_in, fitting, without};
 
 use engine::receipt::Receipt;
+use std::{array, mem};
 
 pub struct Held {
     pub(crate) receipts: [Option<Receipt>; 8],
     ghost eight: { length receipts ≡ 8 },
-}
-
-// The number of a receipt that may be there.
-fn number_of(receipt: &Option<Receipt>) -> Option<u32>
-    ensures { result ≡ number_in receipt.now }
-{
-    match receipt {
-        Some(owed) => Some(owed.number()),
-        None => None,
-    }
 }
 
 // A place that is empty.
@@ -34,7 +25,7 @@ impl Held {
         ensures { result.receipts ≡ replicate 8 None }
     {
         Held {
-            receipts: [None, None, None, None, None, None, None, None],
+            receipts: array::from_fn(|_| None),
         }
     }
 
@@ -42,10 +33,8 @@ impl Held {
     pub(crate) fn number(&self, job: u8) -> Option<u32>
         ensures { result ≡ number_in (slice_index_or self.now.receipts job None) }
     {
-        if job > 7 {
-            return None;
-        }
-        number_of(&self.receipts[job as usize])
+        let place = self.receipts.get(usize::from(job))?;
+        place.as_ref().map(|receipt| receipt.number())
     }
 
     // Puts another in a job's place, and gives what was there.
@@ -54,7 +43,7 @@ impl Held {
         ensures value { result ≡ slice_index_or self.old.receipts job None }
         ensures after { self.new.receipts ≡ slice_set self.old.receipts job new }
     {
-        std::mem::replace(&mut self.receipts[job as usize], new)
+        mem::replace(&mut self.receipts[usize::from(job)], new)
     }
 
     // Takes the job's receipt out, if it has this number.
@@ -62,16 +51,14 @@ impl Held {
         ensures value { result ≡ fitting number (slice_index_or self.old.receipts job None) }
         ensures after { self.new.receipts ≡ without result self.old.receipts job }
     {
-        let Some(held) = self.number(job) else {
-            return None;
-        };
+        let held = self.number(job)?;
         if held != number {
             return None;
         }
         self.replace(job, None)
     }
 
-    // Lets go of the places, once they are empty.
+    // Lets go of the places, once they are empty. Place by place: a loop over an array, or its `map`, wants items that can be dropped, and a receipt cannot.
     pub(crate) fn let_go(self)
         requires { (k : ℕ) → slice_index_or self.receipts k None ≡ None }
     {

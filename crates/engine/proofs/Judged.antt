@@ -24,15 +24,6 @@ withheld (Err d) b e p = let same : d ≡ e = cc in ap (λ (x : Refusal). Err x)
 pub seated : (j : ℕ) (more : Judgement) → also (no_such_job j) more ≡ Ok tt → j < 8
 seated j more p = let h : j ≤ 7 = ltb-false 7 j (when_no (ltb 7 j) _ (passed (no_such_job j) more p).0) in omega arith
 
--- The steps that an accepted run can make fit.
-pub room : (j limit : ℕ) (b : Job) → judge_run j limit b ≡ Ok tt → b.steps + limit ≤ 4294967295
-room j limit b p =
-    let opened = passed (no_such_job j) _ p in
-    let waiting = passed (not_open b) _ opened.1 in
-    let ending = passed (waits b) _ waiting.1 in
-    let counting = passed (ended b) _ ending.1 in
-    ltb-false 4294967295 (b.steps + limit) (when_no (ltb 4294967295 (b.steps + limit)) _ (passed (too_many b limit) _ counting.1).0)
-
 -- The two grounds that every call has, before any others.
 pub stopped : (x y more : Judgement) (e : Refusal) → also x (also y (Ok tt)) ≡ Err e → also x (also y more) ≡ Err e
 stopped (Err d) y more e p = p

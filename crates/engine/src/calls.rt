@@ -1,16 +1,18 @@
-// The calls. Each does what the model's definition of it says, and a refused one changes nothing.
-ghost use Rattle.std.specs.Prelude.{◌≡◌, ℕ, ◌+◌, ◌*◌, ◌<◌, ◌≤◌, Bool, false, length, replicate, IfErr, OnErr};
+// The calls. Each does what the model's definition of it says, and a refused one changes nothing. A state and a look go into a buffer that
+// is lent, as the calls are defined; that a refused one leaves it is said of a change, so each of them says it.
+ghost use Rattle.std.specs.Prelude.{◌≡◌, ℕ, ◌+◌, ◌*◌, ◌<◌, ◌≤◌, Bool, false, length, replicate, IfOk, IfErr, OnErr};
 ghost use Rattle.memory.specs.Memories.{Mem};
 ghost use Rattle.runs.specs.Runs.{calls_in};
 ghost use Rattle.model.specs.Jobs.{closed_job, ran_job, state_of};
 ghost use Rattle.model.specs.Calls.{opens, asks, loads, runs as asks_run, replies, abandons, looks, states, closes};
-ghost use Rattle.model.specs.Acts.{owed_by};
+ghost use Rattle.model.specs.Acts.{judge_receipt, owed_by};
 ghost use Rattle.model.specs.Worlds.{jobs_of, world_of, new_world, upd, twice, does};
 ghost use Rattle.engine.specs.Answers.{done_answer, owed_of, ran_answer, returned_answer, look_answer, state_answer};
+ghost use Rattle.engine.specs.Judges.{record_or, record_in};
 ghost use Rattle.protection.specs.Protection.{Protected};
 
 use crate::jobs::Engine;
-use crate::receipt::{Outcome, Receipt, Returned};
+use crate::receipt::{Outcome, Receipt, Redeemed, Returned};
 use memory::Memory;
 use model::job::{Job, Registers, State};
 use model::records::{calls_in, status_after};
@@ -47,16 +49,6 @@ fn receipt_for(stop: Stop, job: u8, number: u32) -> Option<Receipt>
     }
 }
 
-// The record of a job that is not open, which any number may have.
-fn vacant() -> Job
-    ensures value { result ≡ closed_job }
-    ensures once { twice result.table ≡ false }
-    ensures timed { result.time ≤ result.steps * 4294967295 }
-    ensures called { result.calls ≤ result.steps }
-{
-    Job::closed()
-}
-
 fn closed_jobs() -> [Job; 8]
     ensures { result ≡ replicate 8 closed_job }
 {
@@ -81,7 +73,8 @@ impl Engine {
         }
     }
 
-    // Puts another record in a job's place; the other seven stay.
+    // Puts another record in a job's place; the other seven stay. The number stays a number: a type for those below eight would be
+    // made and unmade in every call, each of which takes any number and refuses the others.
     fn set_record(&mut self, job: u8, new: Job)
         requires low { job < 8 }
         requires once { twice new.table ≡ false }
@@ -97,15 +90,7 @@ impl Engine {
         requires { job < 8 }
         ensures { jobs_of self.new.jobs ≡ upd (jobs_of self.old.jobs) job closed_job }
     {
-        self.set_record(job, vacant());
-    }
-
-    // The number of the job's latest system call: each job counts its own.
-    fn latest_call(&self, job: u8) -> u32
-        requires { job < 8 }
-        ensures { result ≡ (jobs_of self.now.jobs job).calls }
-    {
-        self.record(job).calls
+        self.set_record(job, Job::closed());
     }
 
     // The table of a job's record, which names no page twice.
@@ -161,11 +146,26 @@ impl Engine {
         let run = run_job(memory, table, &mut record.processor, limit);
         count(&mut record, run);
         self.set_record(job, record);
-        let number = self.latest_call(job);
         Ok(Outcome {
             run,
-            receipt: receipt_for(run.stop, job, number),
+            receipt: receipt_for(run.stop, job, record.calls),
         })
+    }
+
+    // What a receipt is for: refused with 4, 6 and 14, with the receipt handed back.
+    fn redeem(&self, receipt: Receipt) -> Result<Redeemed, Returned>
+        ensures judged { record_in result ≡ record_or (judge_receipt receipt.job receipt.number) (jobs_of self.now.jobs receipt.job) }
+        ensures taken { IfOk result (λ r. r.job ≡ receipt.job) }
+        ensures handed { IfErr result (λ e. e.receipt ≡ receipt) }
+    {
+        // a match and no `map_err`: either arm takes the receipt
+        match self.owing_record(&receipt) {
+            Err(refusal) => Err(Returned { refusal, receipt }),
+            Ok(record) => {
+                let Receipt { job, number: _ } = receipt;
+                Ok(Redeemed { job, record })
+            }
+        }
     }
 
     // Sets the eight registers of the bank in use of a job that waits for this receipt, and makes it ready:
@@ -174,14 +174,9 @@ impl Engine {
         ensures world { (m : Mem) → does (asks receipt.job (replies receipt.number registers)) (world_of self.old.jobs m) ≡ record { world = world_of self.new.jobs m; answer = returned_answer result } }
         ensures handed { IfErr result (λ e. e.receipt ≡ receipt) }
     {
-        match self.owing_record(&receipt) {
-            Err(refusal) => Err(Returned { refusal, receipt }),
-            Ok(record) => {
-                let Receipt { job, number: _ } = receipt;
-                self.set_record(job, record.replied(registers));
-                Ok(())
-            }
-        }
+        let Redeemed { job, record } = self.redeem(receipt)?;
+        self.set_record(job, record.replied(registers));
+        Ok(())
     }
 
     // Closes a job that waits for this receipt: refused with 4, 6 and 14, with the receipt handed back.
@@ -189,14 +184,9 @@ impl Engine {
         ensures world { (m : Mem) → does (asks receipt.job (abandons receipt.number)) (world_of self.old.jobs m) ≡ record { world = world_of self.new.jobs m; answer = returned_answer result } }
         ensures handed { IfErr result (λ e. e.receipt ≡ receipt) }
     {
-        match self.owing_record(&receipt) {
-            Err(refusal) => Err(Returned { refusal, receipt }),
-            Ok(_) => {
-                let Receipt { job, number: _ } = receipt;
-                self.vacate(job);
-                Ok(())
-            }
-        }
+        let Redeemed { job, .. } = self.redeem(receipt)?;
+        self.vacate(job);
+        Ok(())
     }
 
     // Fills the buffer with the job's state: refused with 4 and 6, with the buffer as it was.

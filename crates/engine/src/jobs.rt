@@ -1,3 +1,4 @@
+// The engine: its eight records.
 ghost use Rattle.std.specs.Prelude.{◌≡◌, ℕ, ◌*◌, ◌≤◌, false};
 ghost use Rattle.model.specs.Worlds.{jobs_of, twice};
 

@@ -1,6 +1,7 @@
 // What a run answers, and the receipt for a system call.
 ghost use Rattle.std.specs.Prelude.{◌≡◌};
 
+use model::job::Job;
 use refusal::Refusal;
 use runs::Ran;
 
@@ -36,4 +37,11 @@ pub struct Outcome {
 pub struct Returned {
     pub refusal: Refusal,
     pub receipt: Receipt,
+}
+
+// A receipt that was taken: its job, and the record of that.
+#[derive(Clone, Copy)]
+pub(crate) struct Redeemed {
+    pub(crate) job: u8,
+    pub(crate) record: Job,
 }

@@ -1,6 +1,7 @@
 // freight: two shippers' programs price a dozen shipments, each alone and then beside each other and a trespasser.
 #![tactic(auto)]
 
+mod host;
 mod listings;
 mod pricing;
 mod problem;
@@ -9,17 +10,32 @@ mod seat;
 mod shippers;
 mod trespass;
 
+use pricing::Priced;
 use problem::Problem;
-use shippers::Shipper;
+use report::{Comparison, Report};
+use shippers::SHIPPERS;
+use std::alloc::Global;
 
-fn demonstrate(rt: &HostRuntime) -> Result<(), Problem> {
-    let alder = pricing::alone(rt.alloc(), Shipper::Alder)?;
-    let birch = pricing::alone(rt.alloc(), Shipper::Birch)?;
-    let together = pricing::interleaved(rt.alloc())?;
-    report::show(rt, &alder, &birch, &together)?;
-    Ok(())
+// Both ways, side by side.
+fn compare(heap: Global) -> Result<Report, Problem> {
+    let alone = pricing::alone(heap)?;
+    let Priced { bills, attempts } = pricing::interleaved(heap)?;
+    let mut comparisons = Vec::new(heap);
+    for ((shipper, alone), beside) in SHIPPERS.iter().zip(alone).zip(bills) {
+        comparisons.push(Comparison {
+            shipper: *shipper,
+            alone,
+            beside,
+        })?;
+    }
+    Ok(Report {
+        comparisons,
+        attempts,
+    })
 }
 
-fn main(rt: HostRuntime) -> Result<(), Problem> {
-    demonstrate(&rt)
+fn main(rt: HostRuntime) -> anyhow::Result<()> {
+    let report = compare(rt.alloc())?;
+    print!(rt; "{report}")?;
+    Ok(())
 }

@@ -1,10 +1,10 @@
 // The two ways of pricing: each shipper alone, and both beside each other and a trespasser.
+use crate::host::Host;
 use crate::problem::Problem;
 use crate::seat::Seat;
-use crate::shippers::{Shipper, tariff_board};
-use crate::trespass::{Attempt, Trespasser};
+use crate::shippers::{SHIPPERS, Shipper, tariff_board};
+use crate::trespass::{Attempt, TRESPASSES, Trespass, Trespasser};
 use desk::desk::Desk;
-use memory::Memory;
 use office::bill::Bill;
 use std::alloc::Global;
 
@@ -14,104 +14,109 @@ pub const SLICE: u16 = 200;
 // More rounds than any pricing takes.
 const MOST_ROUNDS: u16 = 10000;
 
-// Runs one shipper up to each of its questions.
-fn price_alone<M: Memory>(
-    desk: &mut Desk,
-    memory: &mut M,
-    heap: Global,
-    shipper: Shipper,
-) -> Result<Bill, Problem> {
-    let mut seat = Seat::take(desk, memory, heap, shipper)?;
-    for _ in 0..MOST_ROUNDS {
-        if seat.is_over() {
-            return seat.bill(desk);
-        }
-        seat.turn(desk, memory, u16::MAX)?;
-    }
-    Err(Problem::Endless)
-}
-
-// A new engine and a new board for one shipper.
-pub fn alone(heap: Global, shipper: Shipper) -> Result<Bill, Problem> {
-    let mut bytes = vec![in heap; 0u8; 65536]?;
-    let mut board = tariff_board(&mut bytes)?;
-    let mut desk = Desk::new();
-    let bill = price_alone(&mut desk, &mut board, heap, shipper);
-    let _ = desk.finish();
-    bill
-}
-
-// What came of the shippers and of the trespasses beside each other.
+// What came of the shippers, in their order, and of the trespasses.
 #[derive(Drop)]
-pub struct Together {
-    pub alder: Bill,
-    pub birch: Bill,
+pub struct Priced {
+    pub bills: Vec<Bill>,
     pub attempts: Vec<Attempt>,
 }
 
-// Those that share a desk.
+// Those that share a host.
 #[derive(Drop)]
 struct Floor {
-    alder: Seat,
-    birch: Seat,
+    seats: Vec<Seat>,
     trespasser: Trespasser,
 }
 
 impl Floor {
-    fn open<M: Memory>(desk: &mut Desk, memory: &mut M, heap: Global) -> Result<Floor, Problem> {
-        let alder = Seat::take(desk, memory, heap, Shipper::Alder)?;
-        let birch = Seat::take(desk, memory, heap, Shipper::Birch)?;
+    fn open(
+        host: &mut Host,
+        heap: Global,
+        shippers: &[Shipper],
+        trespasses: &'static [Trespass],
+    ) -> Result<Floor, Problem> {
+        let mut seats = Vec::new(heap);
+        for shipper in shippers {
+            seats.push(Seat::take(host, heap, *shipper)?)?;
+        }
         Ok(Floor {
-            alder,
-            birch,
-            trespasser: Trespasser::new(heap),
+            seats,
+            trespasser: Trespasser::new(heap, trespasses),
         })
     }
 
     fn is_over(&self) -> bool {
-        self.alder.is_over() && self.birch.is_over()
+        self.seats.iter().all(|seat| seat.is_over())
     }
 
     // A slice for each.
-    fn round<M: Memory>(&mut self, desk: &mut Desk, memory: &mut M) -> Result<(), Problem> {
-        self.alder.turn(desk, memory, SLICE)?;
-        self.birch.turn(desk, memory, SLICE)?;
-        self.trespasser.turn(desk, memory, SLICE)
+    fn round(&mut self, host: &mut Host, slice: u16) -> Result<(), Problem> {
+        for seat in self.seats.iter_mut() {
+            seat.turn(host, slice)?;
+        }
+        self.trespasser.turn(host, slice)
     }
 
-    fn settle(self, desk: &Desk) -> Result<Together, Problem> {
-        let alder = self.alder.bill(desk)?;
-        let birch = self.birch.bill(desk)?;
-        Ok(Together {
-            alder,
-            birch,
+    fn settle(self, host: &Host, heap: Global) -> Result<Priced, Problem> {
+        let mut bills = Vec::new(heap);
+        for seat in self.seats {
+            bills.push(seat.bill(host)?)?;
+        }
+        Ok(Priced {
+            bills,
             attempts: self.trespasser.attempts,
         })
     }
 }
 
-// Round after round, until both shippers are over.
-fn price_interleaved<M: Memory>(
-    desk: &mut Desk,
-    memory: &mut M,
+// Round after round, until the shippers are over.
+fn price_at(
+    host: &mut Host,
     heap: Global,
-) -> Result<Together, Problem> {
-    let mut floor = Floor::open(desk, memory, heap)?;
+    shippers: &[Shipper],
+    trespasses: &'static [Trespass],
+    slice: u16,
+) -> Result<Priced, Problem> {
+    let mut floor = Floor::open(host, heap, shippers, trespasses)?;
     for _ in 0..MOST_ROUNDS {
         if floor.is_over() {
-            return floor.settle(desk);
+            return floor.settle(host, heap);
         }
-        floor.round(desk, memory)?;
+        floor.round(host, slice)?;
     }
     Err(Problem::Endless)
 }
 
-// One engine and one board for all.
-pub fn interleaved(heap: Global) -> Result<Together, Problem> {
+// The same at a host of their own: a new engine and a new board.
+fn price(
+    heap: Global,
+    shippers: &[Shipper],
+    trespasses: &'static [Trespass],
+    slice: u16,
+) -> Result<Priced, Problem> {
     let mut bytes = vec![in heap; 0u8; 65536]?;
     let mut board = tariff_board(&mut bytes)?;
     let mut desk = Desk::new();
-    let priced = price_interleaved(&mut desk, &mut board, heap);
+    let mut host = Host {
+        desk: &mut desk,
+        board: &mut board,
+    };
+    let priced = price_at(&mut host, heap, shippers, trespasses, slice);
     let _ = desk.finish();
     priced
+}
+
+// The bill of each shipper at a host of its own, where it is run up to each of its questions.
+pub fn alone(heap: Global) -> Result<Vec<Bill>, Problem> {
+    let mut bills = Vec::new(heap);
+    for shipper in SHIPPERS {
+        let mut priced = price(heap, &[shipper], &[], u16::MAX)?;
+        bills.append(&mut priced.bills)?;
+    }
+    Ok(bills)
+}
+
+// One host for all, in slices.
+pub fn interleaved(heap: Global) -> Result<Priced, Problem> {
+    price(heap, &SHIPPERS, &TRESPASSES, SLICE)
 }

@@ -2,63 +2,24 @@
 use desk::desk::NotHeld;
 use office::account::NoAnswer;
 use refusal::Refusal;
-use std::alloc::{AllocError, AllocFailed};
-use std::io;
+use std::alloc::AllocError;
 use stop::Stop;
+use thiserror::Error;
 
-#[derive(Clone, Copy, Debug)]
+#[derive(Debug, Drop, Error)]
 pub enum Problem {
-    // the engine refused a call
-    Refused(Refusal),
-    // a shipper's program stopped other than by a system call or its end
+    #[error("the engine refuses a call: {0}")]
+    Refused(#[from] Refusal),
+    #[error("a shipper's program comes to stop {}, which is neither a question nor its end", .0.number())]
     Stopped(Stop),
-    // a shipper asked what the office does not know
-    Asked(u8),
-    // the desk does not hold the receipt that is to be replied to
-    NotHeld,
-    // a shipper took more turns than any pricing needs
+    #[error(transparent)]
+    NoAnswer(#[from] NoAnswer),
+    #[error("a job to be replied to does not wait")]
+    NotWaiting,
+    #[error("the desk does not hold the receipt to be replied to")]
+    NotHeld(#[from] NotHeld),
+    #[error("a shipper takes more turns than any pricing needs")]
     Endless,
-    // there is no memory left
-    NoMemory,
-    // nothing can be printed
-    Output,
-}
-
-impl From<Refusal> for Problem {
-    fn from(refusal: Refusal) -> Problem {
-        Problem::Refused(refusal)
-    }
-}
-
-impl From<NotHeld> for Problem {
-    fn from(_missing: NotHeld) -> Problem {
-        Problem::NotHeld
-    }
-}
-
-impl From<NoAnswer> for Problem {
-    fn from(none: NoAnswer) -> Problem {
-        match none {
-            NoAnswer::Unknown(a) => Problem::Asked(a),
-            NoAnswer::NoMemory => Problem::NoMemory,
-        }
-    }
-}
-
-impl From<AllocError> for Problem {
-    fn from(_error: AllocError) -> Problem {
-        Problem::NoMemory
-    }
-}
-
-impl<T: Drop> From<AllocFailed<T>> for Problem {
-    fn from(_refused: AllocFailed<T>) -> Problem {
-        Problem::NoMemory
-    }
-}
-
-impl From<io::Error> for Problem {
-    fn from(_error: io::Error) -> Problem {
-        Problem::Output
-    }
+    #[error("there is no memory left")]
+    NoMemory(#[from(alloc)] AllocError),
 }

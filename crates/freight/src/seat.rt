@@ -1,12 +1,12 @@
-// A shipper at a desk.
+// A shipper at a host.
+use crate::host::Host;
+use crate::listings::SHIPMENTS;
 use crate::problem::Problem;
-use crate::shippers::{Shipper, shipments};
-use desk::desk::Desk;
-use memory::Memory;
-use model::job::State;
+use crate::shippers::Shipper;
 use office::account::Account;
 use office::bill::Bill;
 use office::question::Question;
+use refusal::Refusal;
 use std::alloc::Global;
 use stop::{Stop, Trap};
 
@@ -14,24 +14,18 @@ use stop::{Stop, Trap};
 #[derive(Drop)]
 pub struct Seat {
     shipper: Shipper,
-    account: Account,
+    account: Account<'static>,
     runs: u32,
     over: bool,
 }
 
 impl Seat {
     // Opens the shipper's job and loads its program.
-    pub fn take<M: Memory>(
-        desk: &mut Desk,
-        memory: &mut M,
-        heap: Global,
-        shipper: Shipper,
-    ) -> Result<Seat, Problem> {
-        desk.open(memory, shipper.job(), shipper.table(), 0)?;
-        desk.load(memory, shipper.job(), 0, shipper.code())?;
+    pub fn take(host: &mut Host, heap: Global, shipper: Shipper) -> Result<Seat, Refusal> {
+        host.start(shipper.job, shipper.table, shipper.code)?;
         Ok(Seat {
             shipper,
-            account: Account::new(heap),
+            account: Account::new(heap, &SHIPMENTS),
             runs: 0,
             over: false,
         })
@@ -42,20 +36,15 @@ impl Seat {
     }
 
     // Runs the program for at most so many steps, and answers it if it asks. Nothing once it is over.
-    pub fn turn<M: Memory>(
-        &mut self,
-        desk: &mut Desk,
-        memory: &mut M,
-        limit: u16,
-    ) -> Result<(), Problem> {
+    pub fn turn(&mut self, host: &mut Host, limit: u16) -> Result<(), Problem> {
         if self.over {
             return Ok(());
         }
-        let ran = desk.run(memory, self.shipper.job(), limit)?;
+        let ran = host.run(self.shipper.job, limit)?;
         self.runs = self.runs.saturating_add(1);
         match ran.stop {
             Stop::Limit => Ok(()),
-            Stop::Trapped(Trap::SystemCall) => self.serve(desk),
+            Stop::Trapped(Trap::SystemCall) => self.serve(host),
             Stop::Trapped(Trap::Halt) => {
                 self.over = true;
                 Ok(())
@@ -65,23 +54,17 @@ impl Seat {
     }
 
     // Answers the system call that the program waits for.
-    fn serve(&mut self, desk: &mut Desk) -> Result<(), Problem> {
-        let job = self.shipper.job();
-        let Some(number) = desk.owed(job) else {
-            return Err(Problem::NotHeld);
-        };
-        let mut state = State::blank();
-        desk.state(job, &mut state)?;
-        let question = Question::of(&state.processor.bank());
-        let reply = self.account.answer(question, shipments())?;
-        desk.reply(job, number, reply)?;
-        Ok(())
+    fn serve(&mut self, host: &mut Host) -> Result<(), Problem> {
+        let job = self.shipper.job;
+        let state = host.state(job)?;
+        let question = Question::from(&state.processor.bank());
+        let reply = self.account.answer(question)?;
+        host.reply(job, reply)
     }
 
     // What it comes to: its charges, with the steps and the time of its job.
-    pub fn bill(self, desk: &Desk) -> Result<Bill, Problem> {
-        let mut state = State::blank();
-        desk.state(self.shipper.job(), &mut state)?;
+    pub fn bill(self, host: &Host) -> Result<Bill, Refusal> {
+        let state = host.state(self.shipper.job)?;
         Ok(Bill {
             charges: self.account.charges,
             steps: state.steps,

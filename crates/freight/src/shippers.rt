@@ -1,70 +1,42 @@
 // The two shippers, and the board that they work on.
-use crate::listings::{ALDER, BIRCH, SHIPMENTS, TARIFF};
+use crate::listings::{ALDER, BIRCH, TARIFF};
 use boards::single::{Filling, SingleBoard};
 use memory::page::Page;
 use memory::sets::PageSet;
-use office::question::Shipment;
 use refusal::Refusal;
 
+// Sector 0 is a page of its own, 3 or 4, and sector 1 the tariff in page 5, which it may only read.
 #[derive(Clone, Copy)]
-pub enum Shipper {
-    Alder,
-    Birch,
+pub struct Shipper {
+    pub name: &'static str,
+    // how it prices
+    pub method: &'static str,
+    pub job: u8,
+    pub table: [u8; 15],
+    pub code: &'static [u8],
 }
 
-impl Shipper {
-    pub fn name(self) -> &'static str {
-        match self {
-            Shipper::Alder => "Alder Freight",
-            Shipper::Birch => "Birch Parcel",
-        }
-    }
-
-    // How it prices.
-    pub fn method(self) -> &'static str {
-        match self {
-            Shipper::Alder => "price by zone and weight, fuel surcharge, minimum charge",
-            Shipper::Birch => "first price of the zone, steps of weight, a sixteenth off if heavy",
-        }
-    }
-
-    pub fn job(self) -> u8 {
-        match self {
-            Shipper::Alder => 0,
-            Shipper::Birch => 1,
-        }
-    }
-
-    // Sector 0 is a page of its own, 3 or 4, and sector 1 the tariff in page 5, which it may only read.
-    pub fn table(self) -> [u8; 15] {
-        match self {
-            Shipper::Alder => [60, 84, 0, 0, 0, 0, 0, 0, 0, 0, 0, 0, 0, 0, 0],
-            Shipper::Birch => [76, 84, 0, 0, 0, 0, 0, 0, 0, 0, 0, 0, 0, 0, 0],
-        }
-    }
-
-    pub fn code(self) -> &'static [u8] {
-        match self {
-            Shipper::Alder => &ALDER,
-            Shipper::Birch => &BIRCH,
-        }
-    }
-}
-
-// What both shippers price.
-pub fn shipments() -> &'static [Shipment] {
-    &SHIPMENTS
-}
-
-// The tariff, as it stands at the start of its page.
-pub fn tariff() -> &'static [u8] {
-    &TARIFF
-}
+pub const SHIPPERS: [Shipper; 2] = [
+    Shipper {
+        name: "Alder Freight",
+        method: "price by zone and weight, fuel surcharge, minimum charge",
+        job: 0,
+        table: [60, 84, 0, 0, 0, 0, 0, 0, 0, 0, 0, 0, 0, 0, 0],
+        code: &ALDER,
+    },
+    Shipper {
+        name: "Birch Parcel",
+        method: "first price of the zone, steps of weight, a sixteenth off if heavy",
+        job: 1,
+        table: [76, 84, 0, 0, 0, 0, 0, 0, 0, 0, 0, 0, 0, 0, 0],
+        code: &BIRCH,
+    },
+];
 
 // A board with the tariff in page 5, which is filled first and sealed then.
 pub fn tariff_board<'a>(bytes: &'a mut [u8]) -> Result<SingleBoard<'a>, Refusal> {
-    let five = Page::new(5)?;
+    let five = Page::try_from(5)?;
     let filling = Filling::new();
-    filling.fill(bytes, five, 0, tariff())?;
+    filling.fill(bytes, five, 0, &TARIFF)?;
     Ok(filling.seal(PageSet::none().with(five)).board(bytes))
 }

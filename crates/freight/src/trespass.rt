@@ -1,123 +1,99 @@
 // A third program, which tries to read and write what is not its own.
+use crate::host::Host;
 use crate::listings::{JUMPS_BEYOND, LOADS_TABLE, MOVES_INTO_TARIFF, READS_BEYOND, WRITES_TARIFF};
 use crate::problem::Problem;
-use desk::desk::Desk;
-use memory::Memory;
 use refusal::{Ground, Refusal};
 use std::alloc::Global;
-use std::fmt;
+use std::{fmt, slice};
 use stop::{Fault, Stop, Trap};
 
 const JOB: u8 = 2;
 
+// A page of its own, 6, and the tariff to read.
+const TABLE: [u8; 15] = [108, 84, 0, 0, 0, 0, 0, 0, 0, 0, 0, 0, 0, 0, 0];
+
+// What it tries, and how.
 #[derive(Clone, Copy)]
-pub enum Trespass {
-    WritesTariff,
-    MovesIntoTariff,
-    ReadsBeyond,
-    JumpsBeyond,
-    LoadsTable,
-    NamesPage,
+pub struct Trespass {
+    words: &'static str,
+    table: [u8; 15],
+    code: &'static [u8],
 }
 
 // In the order in which they are tried.
-const TRESPASSES: [Trespass; 6] = [
-    Trespass::WritesTariff,
-    Trespass::MovesIntoTariff,
-    Trespass::ReadsBeyond,
-    Trespass::JumpsBeyond,
-    Trespass::LoadsTable,
-    Trespass::NamesPage,
+pub const TRESPASSES: [Trespass; 6] = [
+    Trespass {
+        words: "stores into the tariff",
+        table: TABLE,
+        code: &WRITES_TARIFF,
+    },
+    Trespass {
+        words: "moves a block into the tariff",
+        table: TABLE,
+        code: &MOVES_INTO_TARIFF,
+    },
+    Trespass {
+        words: "reads a sector without access",
+        table: TABLE,
+        code: &READS_BEYOND,
+    },
+    Trespass {
+        words: "jumps to a sector without access",
+        table: TABLE,
+        code: &JUMPS_BEYOND,
+    },
+    Trespass {
+        words: "loads a sector table of its own",
+        table: TABLE,
+        code: &LOADS_TABLE,
+    },
+    // Alder's page is 3
+    Trespass {
+        words: "is opened with Alder's page in its table",
+        table: [108, 84, 52, 0, 0, 0, 0, 0, 0, 0, 0, 0, 0, 0, 0],
+        code: &READS_BEYOND,
+    },
 ];
 
 impl Trespass {
-    pub fn words(self) -> &'static str {
-        match self {
-            Trespass::WritesTariff => "stores into the tariff",
-            Trespass::MovesIntoTariff => "moves a block into the tariff",
-            Trespass::ReadsBeyond => "reads a sector without access",
-            Trespass::JumpsBeyond => "jumps to a sector without access",
-            Trespass::LoadsTable => "loads a sector table of its own",
-            Trespass::NamesPage => "is opened with Alder's page in its table",
-        }
+    // Opens the job anew, runs it, and closes it again: the stop of its run, or the first refusal.
+    fn attempt(&self, host: &mut Host, limit: u16) -> Result<Stop, Refusal> {
+        host.start(JOB, self.table, self.code)?;
+        let ran = host.run(JOB, limit)?;
+        host.close(JOB)?;
+        Ok(ran.stop)
     }
-
-    // A page of its own, 6, and the tariff to read; the last names Alder's page 3 as well.
-    fn table(self) -> [u8; 15] {
-        match self {
-            Trespass::NamesPage => [108, 84, 52, 0, 0, 0, 0, 0, 0, 0, 0, 0, 0, 0, 0],
-            _ => [108, 84, 0, 0, 0, 0, 0, 0, 0, 0, 0, 0, 0, 0, 0],
-        }
-    }
-
-    fn code(self) -> &'static [u8] {
-        match self {
-            Trespass::WritesTariff => &WRITES_TARIFF,
-            Trespass::MovesIntoTariff => &MOVES_INTO_TARIFF,
-            Trespass::ReadsBeyond | Trespass::NamesPage => &READS_BEYOND,
-            Trespass::JumpsBeyond => &JUMPS_BEYOND,
-            Trespass::LoadsTable => &LOADS_TABLE,
-        }
-    }
-
-    // Opens the job anew, runs it, and closes it again.
-    fn attempt<M: Memory>(
-        self,
-        desk: &mut Desk,
-        memory: &mut M,
-        limit: u16,
-    ) -> Result<End, Refusal> {
-        if let Err(refusal) = desk.open(memory, JOB, self.table(), 0) {
-            return Ok(End::Refused(refusal));
-        }
-        desk.load(memory, JOB, 0, self.code())?;
-        let ran = desk.run(memory, JOB, limit)?;
-        desk.close(JOB)?;
-        Ok(End::Stopped(ran.stop))
-    }
-}
-
-// How a trespass ended: by the stop of its run, or the refusal of its opening.
-#[derive(Clone, Copy)]
-pub enum End {
-    Stopped(Stop),
-    Refused(Refusal),
 }
 
 // A trespass, and how it ended.
 #[derive(Clone, Copy)]
 pub struct Attempt {
     pub trespass: Trespass,
-    pub end: End,
+    pub end: Result<Stop, Refusal>,
 }
 
-// The third program, and what it tried so far.
+// What the third program has still to try, and what it tried.
 #[derive(Drop)]
 pub struct Trespasser {
+    left: slice::Iter<'static, Trespass>,
     pub attempts: Vec<Attempt>,
 }
 
 impl Trespasser {
-    pub fn new(heap: Global) -> Trespasser {
+    pub fn new(heap: Global, trespasses: &'static [Trespass]) -> Trespasser {
         Trespasser {
+            left: trespasses.iter(),
             attempts: Vec::new(heap),
         }
     }
 
     // Tries the next trespass, if one is left.
-    pub fn turn<M: Memory>(
-        &mut self,
-        desk: &mut Desk,
-        memory: &mut M,
-        limit: u16,
-    ) -> Result<(), Problem> {
-        if let Some(next) = TRESPASSES.get(self.attempts.len()) {
-            let end = next.attempt(desk, memory, limit)?;
-            let attempt = Attempt {
+    pub fn turn(&mut self, host: &mut Host, limit: u16) -> Result<(), Problem> {
+        if let Some(next) = self.left.next() {
+            self.attempts.push(Attempt {
                 trespass: *next,
-                end,
-            };
-            self.attempts.push(attempt)?;
+                end: next.attempt(host, limit),
+            })?;
         }
         Ok(())
     }
@@ -143,19 +119,14 @@ fn refusal_words(ground: Ground) -> &'static str {
     }
 }
 
-// As `stop 7: it may not write there`.
-impl fmt::Display for End {
+// The trespass, and then as `stop 7: it may not write there`.
+impl fmt::Display for Attempt {
     fn fmt<W: fmt::Write>(&self, f: &mut fmt::Formatter<W>) -> fmt::Result {
-        match self {
-            End::Stopped(stop) => {
-                let number = stop.number();
-                let words = stop_words(*stop);
-                write!(f, "stop {number}: {words}")
-            }
-            End::Refused(refusal) => {
-                let number = refusal.ground.number();
-                let words = refusal_words(refusal.ground);
-                write!(f, "refused {number}: {words}")
+        write!(f, "{:<42}", self.trespass.words)?;
+        match self.end {
+            Ok(stop) => write!(f, "stop {}: {}", stop.number(), stop_words(stop)),
+            Err(Refusal { ground, .. }) => {
+                write!(f, "refused {}: {}", ground.number(), refusal_words(ground))
             }
         }
     }

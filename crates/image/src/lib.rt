@@ -2,6 +2,7 @@
 #![tactic(auto)]
 
 ghost use Rattle.std.specs.Prelude.{◌≡◌, ℕ, ◌+◌, ◌≤◌, Bool, true, false, length};
+ghost use Rattle.std.specs.Iterator.{at_most};
 ghost use Rattle.image.specs.Files.{image_of, begins, blocks_end};
 ghost use Rattle.image.specs.Parts.{parsed, image_blocks, left, Stands, Visits};
 ghost use Rattle.image.specs.Laws.{Tiled, Suffices};
@@ -16,7 +17,7 @@ pub struct Image<'a> {
     start: u16,
 }
 
-// The blocks of a file from an offset on.
+// The blocks of a file from an offset on, which is told of each block: what is left of the file alone would not have it.
 #[derive(Clone, Copy)]
 pub struct Blocks<'a> {
     file: &'a [u8],
@@ -70,7 +71,7 @@ fn block_at<'a>(file: &'a [u8], offset: usize) -> Option<Block<'a>>
     })
 }
 
-// Where the blocks end: at the end of the file, or at the first that is incomplete.
+// Where the blocks end: at the end of the file, or at the first that is incomplete. It asks for the blocks itself, since the iterator would have to say of each how the end depends on it.
 fn end_of_blocks(file: &[u8]) -> usize
     requires { 22 ≤ length file.now }
     ensures end { result ≡ blocks_end file.now 22 }
@@ -134,14 +135,16 @@ impl<'a> Image<'a> {
     }
 }
 
-impl<'a> Blocks<'a> {
-    // The first of the blocks that are left, which are one fewer then.
-    pub fn next(&mut self) -> Option<Block<'a>>
-        ensures { Visits result (left self.old) (left self.new) }
-    {
-        let Some(block) = block_at(self.file, self.offset) else {
-            return None;
-        };
+// The blocks that are left, one after the other.
+impl<'a> Iterator for Blocks<'a> {
+    type Item = Block<'a>;
+
+    ghost next_gives = { λ before given after. Visits given (left before) (left after) };
+
+    ghost remaining = { λ blocks. at_most (length (left blocks)) };
+
+    fn next(&mut self) -> Option<Block<'a>> {
+        let block = block_at(self.file, self.offset)?;
         self.offset += 4 + block.bytes.len();
         Some(block)
     }

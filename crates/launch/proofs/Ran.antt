@@ -1,5 +1,5 @@
 -- What a run's answer says of the job: it is open, and what it owes can be abandoned.
-use Rattle.std.proofs.Common.{◌≡◌, ℕ, ◌<◌, ◌≤◌, true, false, not, ◌&&◌, eqb, Some, None, Ok, Err, Option, sym, refl, ap, ◌∙◌, subst, arith, eq-eqb}
+use Rattle.std.proofs.Common.{◌≡◌, ℕ, ◌<◌, ◌≤◌, true, not, ◌&&◌, eqb, Some, None, Ok, Err, Option, Result, IsOk, sym, refl, ap, ◌∙◌, subst, arith, eq-eqb}
 use Rattle.std.proofs.lemmas.Bool.{le-ltb}
 use Rattle.refusal.specs.declared.Refusal.{Refusal}
 use Rattle.refusal.specs.declared.Ground.TheVariants.{NoSuchJob, NotOpen, NotOwed}
@@ -8,7 +8,6 @@ use Rattle.stop.specs.declared.Trap.{Trap}
 use Rattle.stop.specs.declared.Trap.TheVariants.{Halt, SystemCall, Breakpoint}
 use Rattle.stop.specs.declared.Stop.{Stop}
 use Rattle.stop.specs.declared.Stop.TheVariants.{Limit, Trapped, Faulted}
-use Rattle.memory.specs.Memories.{Mem}
 use Rattle.runs.specs.declared.Ran.{Ran}
 use Rattle.runs.specs.Runs.{Over, run_of}
 use Rattle.model.specs.declared.job.Job.{Job}
@@ -16,32 +15,15 @@ use Rattle.model.specs.declared.job.State.{State}
 use Rattle.model.specs.declared.job.Status.{Status}
 use Rattle.model.specs.declared.job.Status.TheVariants.{Waiting}
 use Rattle.model.specs.Jobs.{closed_job, is_open, is_waiting, status_after, ran_job, state_of}
-use Rattle.model.specs.Calls.{asks, runs, states, abandons, Owed, Answer, refused, done, ran, saw, told}
+use Rattle.model.specs.Calls.{asks, runs, states, abandons, Owed, done, ran, told}
 use Rattle.model.specs.Acts.{not_open, not_owed, owed_by, ran_left, judge_ask, judge_open_job, judge_receipt}
 use Rattle.model.specs.Worlds.{World, Done, space_at, upd, settle, does}
 use Rattle.model.proofs.Settling.{upd_same, refuses, accepts, settles_record, settles_answer}
+use Rattle.engine.specs.declared.receipt.Returned.{Returned}
+use Rattle.engine.specs.Answers.{returned_answer, state_answer}
 use Rattle.engine.proofs.Judged.{seated}
 use Rattle.launch.specs.Launches.{ran_in, owed_in, settled_by, Acceptable}
-
--- Answers of different kinds differ.
-kind : Answer → ℕ
-kind (refused e) = 0
-kind done = 1
-kind (ran r o) = 2
-kind (told s) = 3
-kind (saw bs) = 4
-
-pub refused_ran : {A : Type 0} (e : Refusal) (r : Ran) (o : Option Owed) → refused e ≡ ran r o → A
-unfolding kind
-refused_ran e r o p = let q : ◌≡◌ {A = ℕ} 0 2 = ap kind p in absurd (omega arith)
-
-pub refused_done : {A : Type 0} (e : Refusal) → refused e ≡ done → A
-unfolding kind
-refused_done e p = let q : ◌≡◌ {A = ℕ} 0 1 = ap kind p in absurd (omega arith)
-
-pub refused_told : {A : Type 0} (e : Refusal) (s : State) → refused e ≡ told s → A
-unfolding kind
-refused_told e s p = let q : ◌≡◌ {A = ℕ} 0 3 = ap kind p in absurd (omega arith)
+use Rattle.model.proofs.Answers.{refused_done, refused_ran, refused_told, stop_open}
 
 -- The job after an accepted run.
 pub record RanSays (j : ℕ) (v : World) (r : Ran) (o : Option Owed) : Type 0 where
@@ -70,18 +52,8 @@ ran_says j n w v r o p = go (judge_ask j (runs n) (w.jobs j) (space_at w j)) ref
         }
 
 -- A run leaves its job open.
-after_trap : (e : Trap) → is_open (status_after (Trapped e)) ≡ true
-after_trap Halt = refl
-after_trap SystemCall = refl
-after_trap Breakpoint = refl
-
-after_stop : (e : Stop) → is_open (status_after e) ≡ true
-after_stop Limit = refl
-after_stop (Trapped e) = after_trap e
-after_stop (Faulted e) = refl
-
 pub ran_open : (v : World) (r : Ran) (o : Option Owed) → RanSays 0 v r o → is_open (v.jobs 0).status ≡ true
-ran_open v r o h = ap is_open h.status ∙ after_stop r.stop
+ran_open v r o h = ap is_open h.status ∙ stop_open r.stop
 
 -- What it owes can be abandoned.
 owing : (j : ℕ) (b : Job) → j < 8 → b.status ≡ Waiting → judge_receipt j b.calls b ≡ Ok tt
@@ -117,20 +89,21 @@ state_told w e = accepts 0 states w (open_judged (w.jobs 0) e) ∙ settles_answe
 pub abandoned : (w : World) (o : Owed) → Acceptable (Some o) w.jobs → (does (asks o.job (abandons o.number)) w).answer ≡ done
 abandoned w o h = ap (λ (d : Done). d.answer) (accepts o.job (abandons o.number) w h)
 
--- Any memory: what a call without one answers does not depend on it.
-pub no_mem : Mem
-no_mem = record { byte = λ a. 0; takes = λ p. false }
+-- An open job's state is told, and an acceptable abandoning done.
+pub state_ok : (w v : World) (r : Result (Unit {0}) Refusal) (s : State) → is_open (w.jobs 0).status ≡ true
+    → does (asks 0 states) w ≡ record { world = v; answer = state_answer r s } → IsOk r
+state_ok w v (Ok u) s h p = refl
+state_ok w v (Err e) s h p = refused_told e (state_of (w.jobs 0)) (ap (λ (d : Done). d.answer) (sym p ∙ state_told w h))
 
--- An open job's state is not refused, and an acceptable abandoning is not.
-pub state_kept : {A : Type 0} (w v : World) (e : Refusal) → is_open (w.jobs 0).status ≡ true → does (asks 0 states) w ≡ record { world = v; answer = refused e } → A
-state_kept w v e h p = refused_told e (state_of (w.jobs 0)) (ap (λ (d : Done). d.answer) (sym p ∙ state_told w h))
+pub state_is : (w v : World) (r : Result (Unit {0}) Refusal) (s : State) → is_open (w.jobs 0).status ≡ true
+    → does (asks 0 states) w ≡ record { world = v; answer = state_answer r s } → s ≡ state_of (w.jobs 0)
+state_is w v (Ok u) s h p = let q : told s ≡ told (state_of (w.jobs 0)) = ap (λ (d : Done). d.answer) (sym p ∙ state_told w h) in cc
+state_is w v (Err e) s h p = refused_told e (state_of (w.jobs 0)) (ap (λ (d : Done). d.answer) (sym p ∙ state_told w h))
 
-pub state_is : (w v : World) (s : State) → is_open (w.jobs 0).status ≡ true → does (asks 0 states) w ≡ record { world = v; answer = told s } → s ≡ state_of (w.jobs 0)
-state_is w v s h p = let q : told s ≡ told (state_of (w.jobs 0)) = ap (λ (d : Done). d.answer) (sym p ∙ state_told w h) in cc
-
-pub abandon_kept : {A : Type 0} (w v : World) (o : Owed) (e : Refusal) → Acceptable (Some o) w.jobs
-    → does (asks o.job (abandons o.number)) w ≡ record { world = v; answer = refused e } → A
-abandon_kept w v o e h p = refused_done e (ap (λ (d : Done). d.answer) (sym p) ∙ abandoned w o h)
+pub abandon_ok : (w v : World) (o : Owed) (r : Result (Unit {0}) Returned) → Acceptable (Some o) w.jobs
+    → does (asks o.job (abandons o.number)) w ≡ record { world = v; answer = returned_answer r } → IsOk r
+abandon_ok w v o (Ok u) h p = refl
+abandon_ok w v o (Err e) h p = refused_done e.refusal (ap (λ (d : Done). d.answer) (sym p) ∙ abandoned w o h)
 
 -- Abandoning leaves memory as it was.
 pub settled_mem : (o : Option Owed) (w : World) → (settled_by o w).mem ≡ w.mem

@@ -24,10 +24,6 @@ module _ (whole : List BlockOf) (w : World) where
   unfolding loads_all
   load_end e = sym (ap (λ (l : List BlockOf). loads_all l w) e)
 
--- A refused file.
-pub file_refused : (file : List ℕ) (m : Mem) (e : Refusal) → Err e ≡ image_of file → launch_of file m ≡ launched_by (Err e) (new_world m)
-file_refused file m e h = ap (λ (x : Result Parsed Refusal). on_image x (new_world m)) (sym h)
-
 -- A file that is read, opened in the world `w` of a new engine.
 module _ (file : List ℕ) (m : Mem) (p : Parsed) (w : World) (read : Ok p ≡ image_of file) (new : w ≡ new_world m) where
   opening : launch_of file m ≡ after_open (does (opens 0 p.table p.start) w) p.blocks

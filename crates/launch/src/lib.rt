@@ -66,8 +66,7 @@ impl fmt::Display for Told {
 fn load_all<M: Memory>(engine: &Engine, memory: &mut M, blocks: Blocks) -> Result<(), Refusal>
     ensures { loaded_by result (world_of engine.now.jobs (M.mem memory.new)) ≡ loads_all (left blocks.entry) (world_of engine.now.jobs (M.mem memory.old)) }
 {
-    let mut rest = blocks;
-    while let Some(block) = rest.next() {
+    for block in blocks {
         engine.load(memory, 0, block.address, block.bytes)?;
     }
     Ok(())
@@ -96,22 +95,17 @@ fn accumulator(engine: &Engine) -> u8
     ensures { result ≡ (bank_of (jobs_of engine.now.jobs 0).processor).a }
 {
     let mut state = State::blank();
-    match engine.state(0, &mut state) {
-        Ok(()) => a_of(&state),
-        Err(_) => unreachable(),
-    }
+    engine.state(0, &mut state).unwrap();
+    a_of(&state)
 }
 
-// Abandons what is owed, which is accepted.
+// Abandons what is owed, which is accepted. An engine, and no desk, which would keep the receipt: a desk cannot be dropped where a `?` ends the launch.
 fn abandon_owed(engine: &mut Engine, receipt: Option<Receipt>)
     requires { Acceptable (owed_of receipt) (jobs_of engine.old.jobs) }
     ensures { (m : Mem) → world_of engine.new.jobs m ≡ settled_by (owed_of receipt) (world_of engine.old.jobs m) }
 {
     if let Some(owed) = receipt {
-        match engine.abandon(owed) {
-            Ok(()) => {}
-            Err(_) => unreachable(),
-        }
+        engine.abandon(owed).unwrap();
     }
 }
 

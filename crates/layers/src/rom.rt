@@ -10,6 +10,7 @@ use refusal::{Ground, Refusal};
 const SIZE: usize = 4096;
 
 // The bytes are lent for reading, and should be 4,096: of any other number the page shows zeros. It takes no writes either way.
+// The page is its number: tried with a `Page`, a call with a layer that holds one beside a lent buffer gets no proof.
 #[derive(Drop)]
 pub struct RomLayer<'a, M: Memory> {
     below: M,

@@ -1,19 +1,13 @@
 // A program on a bench: loaded at address 0 of job 0 and run.
-ghost use Rattle.std.specs.Prelude.{◌≡◌, true};
-ghost use Rattle.model.specs.Jobs.{is_open};
-ghost use Rattle.model.specs.Worlds.{jobs_of};
-ghost use Rattle.engine.specs.Answers.{owed_of};
-ghost use Rattle.launch.specs.Launches.{Acceptable};
-
 use boards::single::{Filling, SingleBoard};
-use engine::jobs::Engine;
-use engine::receipt::{Outcome, Receipt};
+use desk::desk::Desk;
 use memory::Memory;
 use memory::sets::PageSet;
 use model::job::State;
 use refusal::Refusal;
 use runs::Ran;
 use std::alloc::AllocError;
+use std::process::Abort;
 
 // Sector 0 is page 0 and may be written, sector 1 is page 1 and may not; the rest give no access.
 pub const TABLE: [u8; 15] = [12, 20, 0, 0, 0, 0, 0, 0, 0, 0, 0, 0, 0, 0, 0];
@@ -28,44 +22,61 @@ pub fn plain<'a>(bytes: &'a mut [u8]) -> SingleBoard<'a> {
     Filling::new().seal(PageSet::none()).board(bytes)
 }
 
-// What is seen of a run: its answer, the job's state after it, and the number on the receipt, or 0.
+// What is found at a desk of its own, which is finished then with what its jobs are owed.
+pub fn at_desk<T, E, F: FnOnce(&mut Desk) -> Result<T, E>>(found: F) -> Result<T, E>
+    requires { F.IsAlwaysCallable found }
+{
+    let mut desk = Desk::new();
+    let told = found(&mut desk);
+    let _ = desk.finish();
+    told
+}
+
+// What is seen of a run: its answer, the job's state after it, and the number of the system call that it waits for.
 #[derive(Clone, Copy)]
 pub struct Seen {
     pub run: Ran,
     pub state: State,
-    pub owed: u32,
+    pub owed: Option<u32>,
 }
 
-// Abandons what is owed, which is accepted.
-pub(crate) fn abandon_owed(engine: &mut Engine, receipt: Option<Receipt>)
-    requires { Acceptable (owed_of receipt) (jobs_of engine.old.jobs) }
-{
-    if let Some(owed) = receipt {
-        match engine.abandon(owed) {
-            Ok(()) => {}
-            Err(_) => unreachable(),
-        }
-    }
-}
-
-// Runs job 0, looks at it, and abandons what it owes.
-pub fn watch<M: Memory>(engine: &mut Engine, memory: &mut M, limit: u16) -> Result<Seen, Refusal> {
-    let Outcome { run, receipt } = engine.run(memory, 0, limit)?;
+// Runs job 0, and looks at it.
+pub fn watch<M: Memory>(desk: &mut Desk, memory: &mut M, limit: u16) -> Result<Seen, Refusal> {
+    let run = desk.run(memory, 0, limit)?;
     let mut state = State::blank();
-    let told = engine.state(0, &mut state);
-    let owed = match &receipt {
-        Some(held) => held.number(),
-        None => 0,
-    };
-    abandon_owed(engine, receipt);
-    told?;
-    Ok(Seen { run, state, owed })
+    desk.state(0, &mut state)?;
+    Ok(Seen {
+        run,
+        state,
+        owed: desk.owed(0),
+    })
 }
 
-// A program over a memory, for at most so many steps.
+// A program over a memory, for at most so many steps. Each table of programs has a loop of its own over this, since each compares something else.
 pub fn trial<M: Memory>(memory: &mut M, program: &[u8], limit: u16) -> Result<Seen, Refusal> {
-    let mut engine = Engine::new();
-    engine.open(memory, 0, TABLE, 0)?;
-    engine.load(memory, 0, 0, program)?;
-    watch(&mut engine, memory, limit)
+    at_desk(|desk| {
+        desk.open(memory, 0, TABLE, 0)?;
+        desk.load(memory, 0, 0, program)?;
+        watch(desk, memory, limit)
+    })
+}
+
+// A refusal's number and place, which are what its tests compare: docs/ states them. Each crate of tests has these lines, since neither stands on the other.
+pub fn told(refusal: Refusal) -> (u8, u32) {
+    (refusal.ground.number(), refusal.place)
+}
+
+// Checks how a call is refused, or that it is not.
+pub fn check_answer<T: Drop>(
+    rt: &impl Abort,
+    name: &str,
+    answer: Result<T, Refusal>,
+    refused: Option<(u8, u32)>,
+) {
+    assert_eq!(rt; answer.err().map(told), refused, "{name}");
+}
+
+// Checks that a call is refused, with this number and place.
+pub fn check_refused<T: Drop>(rt: &impl Abort, answer: Result<T, Refusal>, refused: (u8, u32)) {
+    check_answer(rt, "", answer, Some(refused));
 }

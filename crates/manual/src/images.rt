@@ -1,5 +1,5 @@
 // Whole images, from the file to what run5500 tells of them.
-use super::bench::{plain, zeros};
+use super::bench::{check_answer, plain, zeros};
 use launch::launch;
 use memory::Memory;
 use std::process::Abort;
@@ -59,12 +59,12 @@ struct Told {
     a: u8,
 }
 
+// An image, and how it is refused.
 #[derive(Clone, Copy)]
 struct Refused {
     name: &'static str,
     file: &'static [u8],
-    number: u8,
-    place: u32,
+    refused: (u8, u32),
 }
 
 fn check_images<R: Abort + AllocGlobal>(
@@ -84,15 +84,8 @@ fn check_images<R: Abort + AllocGlobal>(
         );
     }
     for row in refused {
-        match launch(row.file, &mut board) {
-            Ok(_) => return Err(Fail::new(row.name)),
-            Err(refusal) => assert_eq!(rt;
-                (refusal.ground.number(), refusal.place),
-                (row.number, row.place),
-                "{}",
-                row.name
-            ),
-        }
+        let answer = launch(row.file, &mut board);
+        check_answer(rt, row.name, answer, Some(row.refused));
     }
     Ok(())
 }
@@ -152,39 +145,33 @@ fn small_images(rt: HostRuntime) -> Result<(), Fail> {
             Refused {
                 name: "empty",
                 file: b"",
-                number: 2,
-                place: 0,
+                refused: (2, 0),
             },
             // the file is judged first: its block is cut off, and bit 0 of the table is not looked at
             Refused {
                 name: "3 before 7",
                 file: b"DPJ\0\x01\x01\0\0\0\0\0\0\0\0\0\0\0\0\0\0\0\0\0\0\0\x05\x06",
-                number: 3,
-                place: 22,
+                refused: (3, 22),
             },
             Refused {
                 name: "bit 0",
                 file: b"DPJ\0\x01\x3c\x55\0\0\0\0\0\0\0\0\0\0\0\0\0\0\0",
-                number: 7,
-                place: 1,
+                refused: (7, 1),
             },
             Refused {
                 name: "page 3 twice",
                 file: b"DPJ\0\x01\x3c\x34\0\0\0\0\0\0\0\0\0\0\0\0\0\0\0",
-                number: 8,
-                place: 1,
+                refused: (8, 1),
             },
             Refused {
                 name: "a block past the end",
                 file: b"DPJ\0\x01\x3c\x54\0\0\0\0\0\0\0\0\0\0\0\0\0\0\0\xff\xff\0\x02\x01\x02",
-                number: 15,
-                place: 65535,
+                refused: (15, 65535),
             },
             Refused {
                 name: "a block in sector 2",
                 file: b"DPJ\0\x01\x3c\x54\0\0\0\0\0\0\0\0\0\0\0\0\0\0\0\x1f\xff\0\x02\x01\x02",
-                number: 16,
-                place: 8192,
+                refused: (16, 8192),
             },
         ],
     )

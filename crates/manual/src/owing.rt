@@ -1,34 +1,21 @@
-// Calls on a job that waits, and its receipt: replied to, abandoned, and shown to another engine.
+// Calls on a job that waits, and its receipt: shown to another engine, and abandoned.
 ghost use Rattle.std.specs.Prelude.{◌≡◌, Some};
 ghost use Rattle.model.specs.declared.job.Status.TheVariants.{Waiting};
 ghost use Rattle.model.specs.Worlds.{jobs_of};
 ghost use Rattle.engine.specs.Answers.{owed_of};
 ghost use Rattle.launch.specs.Launches.{Acceptable};
 
-use super::bench::abandon_owed;
 use engine::jobs::Engine;
 use engine::receipt::{Outcome, Receipt, Returned};
 use memory::Memory;
-use model::job::Registers;
 use refusal::Refusal;
-
-// A run of job 8, which there is none of.
-pub(crate) fn run_eighth<M: Memory>(engine: &mut Engine, memory: &mut M) -> Refusal {
-    match engine.run(memory, 8, 9) {
-        Ok(_) => unreachable(),
-        Err(refusal) => refusal,
-    }
-}
 
 // A run of job 0 while it waits.
 fn run_waiting<M: Memory>(engine: &mut Engine, memory: &mut M) -> Refusal
     requires { (jobs_of engine.old.jobs 0).status ≡ Waiting }
     ensures { jobs_of engine.new.jobs ≡ jobs_of engine.old.jobs }
 {
-    match engine.run(memory, 0, 9) {
-        Ok(_) => unreachable(),
-        Err(refusal) => refusal,
-    }
+    engine.run(memory, 0, 9).unwrap_err()
 }
 
 // A closing of job 0 while it waits.
@@ -39,29 +26,11 @@ fn close_waiting(engine: &mut Engine) -> Result<(), Refusal>
     engine.close(0)
 }
 
-// Replies to what is owed, which is accepted.
-fn reply_owed(engine: &mut Engine, owed: Receipt, registers: Registers)
+// Abandons what is owed, which is accepted.
+fn abandon_owed(engine: &mut Engine, owed: Receipt)
     requires { Acceptable (owed_of (Some owed)) (jobs_of engine.old.jobs) }
 {
-    match engine.reply(owed, registers) {
-        Ok(()) => {}
-        Err(_) => unreachable(),
-    }
-}
-
-// Runs job 0 up to a system call and replies to it. The number of the call, or None without one.
-pub fn run_and_reply<M: Memory>(
-    engine: &mut Engine,
-    memory: &mut M,
-    registers: Registers,
-) -> Result<Option<u32>, Refusal> {
-    let Outcome { run: _, receipt } = engine.run(memory, 0, 9)?;
-    let Some(owed) = receipt else {
-        return Ok(None);
-    };
-    let number = owed.number();
-    reply_owed(engine, owed, registers);
-    Ok(Some(number))
+    engine.abandon(owed).unwrap();
 }
 
 // What came of a receipt: the number on it, how a run and a closing were refused while it was owed, and what another engine said of it.
@@ -86,21 +55,17 @@ pub fn show_elsewhere<M: Memory>(
     let number = owed.number();
     let waiting = run_waiting(engine, memory);
     let closing = close_waiting(engine);
-    match other.abandon(owed) {
-        Ok(()) => Ok(Some(Shown {
-            number,
-            waiting,
-            closing,
-            elsewhere: None,
-        })),
+    let elsewhere = match other.abandon(owed) {
+        Ok(()) => None,
         Err(Returned { refusal, receipt }) => {
-            abandon_owed(engine, Some(receipt));
-            Ok(Some(Shown {
-                number,
-                waiting,
-                closing,
-                elsewhere: Some(refusal),
-            }))
+            abandon_owed(engine, receipt);
+            Some(refusal)
         }
-    }
+    };
+    Ok(Some(Shown {
+        number,
+        waiting,
+        closing,
+        elsewhere,
+    }))
 }

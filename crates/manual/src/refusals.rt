@@ -1,6 +1,6 @@
 // Each refusal that can be reached, with its number and place, and what it leaves as it was. The ground 13 is left out: it takes more than four thousand million steps to meet.
-use super::bench::{TABLE, plain, watch, zeros};
-use super::owing::{run_and_reply, run_eighth, show_elsewhere};
+use super::bench::{TABLE, at_desk, check_answer, check_refused, plain, told, watch, zeros};
+use super::owing::show_elsewhere;
 use boards::single::{Filling, SingleBoard};
 use engine::jobs::Engine;
 use image::Image;
@@ -12,56 +12,17 @@ use refusal::Refusal;
 use std::process::Abort;
 use std::test::*;
 
-fn check_refusal(
-    rt: &impl Abort,
-    name: &str,
-    refusal: Refusal,
-    number: u8,
-    place: u32,
-) -> Result<(), Fail> {
-    assert_eq!(rt;
-        (refusal.ground.number(), refusal.place),
-        (number, place),
-        "{name}"
-    );
-    Ok(())
-}
-
-fn check_named<T: Drop>(
-    rt: &impl Abort,
-    name: &str,
-    answer: Result<T, Refusal>,
-    number: u8,
-    place: u32,
-) -> Result<(), Fail> {
-    match answer {
-        Ok(_) => Err(Fail::new("accepted")),
-        Err(refusal) => check_refusal(rt, name, refusal, number, place),
-    }
-}
-
-fn check_refused<T: Drop>(
-    rt: &impl Abort,
-    answer: Result<T, Refusal>,
-    number: u8,
-    place: u32,
-) -> Result<(), Fail> {
-    check_named(rt, "", answer, number, place)
-}
-
-// An image file, and how it is refused.
+// An image file, and how it is refused: by number and place, which are what is tested.
 #[derive(Clone, Copy)]
 struct File {
     bytes: &'static [u8],
-    number: u8,
-    place: u32,
+    refused: (u8, u32),
 }
 
-fn check_files(rt: &impl Abort, rows: &[File]) -> Result<(), Fail> {
+fn check_files(rt: &impl Abort, rows: &[File]) {
     for row in rows {
-        check_refused(rt, Image::read(row.bytes), row.number, row.place)?;
+        check_refused(rt, Image::read(row.bytes), row.refused);
     }
-    Ok(())
 }
 
 // The sample image: a table, the start 0, and one block of five bytes.
@@ -74,19 +35,19 @@ const SAMPLE: [u8; 31] = [
 #[test]
 fn files_cut_off(rt: HostRuntime) -> Result<(), Fail> {
     let sample = SAMPLE;
-    for (length, number, place) in [
-        (0usize, 2u8, 0u32),
-        (4, 2, 0),
-        (5, 3, 5),
-        (19, 3, 5),
-        (20, 3, 20),
-        (21, 3, 20),
-        (23, 3, 22),
-        (26, 3, 22),
-        (30, 3, 22),
+    for (length, refused) in [
+        (0usize, (2u8, 0u32)),
+        (4, (2, 0)),
+        (5, (3, 5)),
+        (19, (3, 5)),
+        (20, (3, 20)),
+        (21, (3, 20)),
+        (23, (3, 22)),
+        (26, (3, 22)),
+        (30, (3, 22)),
     ] {
         assert!(rt; length <= 31);
-        check_refused(&rt, Image::read(&sample[0..length]), number, place)?;
+        check_refused(&rt, Image::read(&sample[0..length]), refused);
     }
     // without a block, and with one, it is complete
     assert!(rt; Image::read(&sample[0..22]).is_ok());
@@ -96,51 +57,46 @@ fn files_cut_off(rt: HostRuntime) -> Result<(), Fail> {
 
 // The first five bytes, each in turn.
 #[test]
-fn files_of_another_kind(rt: HostRuntime) -> Result<(), Fail> {
+fn files_of_another_kind(rt: HostRuntime) {
     check_files(
         &rt,
         &[
             File {
                 bytes: b"EPJ\0\x01",
-                number: 2,
-                place: 0,
+                refused: (2, 0),
             },
             File {
                 bytes: b"DQJ\0\x01",
-                number: 2,
-                place: 0,
+                refused: (2, 0),
             },
             File {
                 bytes: b"DPK\0\x01",
-                number: 2,
-                place: 0,
+                refused: (2, 0),
             },
             File {
                 bytes: b"DPJ\x01\x01",
-                number: 2,
-                place: 0,
+                refused: (2, 0),
             },
             File {
                 bytes: b"DPJ\0\x02",
-                number: 2,
-                place: 0,
+                refused: (2, 0),
             },
             File {
                 bytes: b"DPJ\0\x01",
-                number: 3,
-                place: 5,
+                refused: (3, 5),
             },
         ],
-    )
+    );
 }
 
 // 16,384 bytes are not too many, and one more is refused before anything else.
 #[test]
 fn files_too_long(rt: HostRuntime) -> Result<(), Fail> {
     let most = vec![in rt.alloc(); 0u8; 16384]?;
-    check_refused(&rt, Image::read(&most), 2, 0)?;
+    check_refused(&rt, Image::read(&most), (2, 0));
     let more = vec![in rt.alloc(); 0u8; 16385]?;
-    check_refused(&rt, Image::read(&more), 1, 16384)
+    check_refused(&rt, Image::read(&more), (1, 16384));
+    Ok(())
 }
 
 // A block is a part of the file, with the offset of its header.
@@ -168,23 +124,23 @@ fn blocks_of_a_file(rt: HostRuntime) -> Result<(), Fail> {
 // Page and sector numbers go up to 15.
 #[test]
 fn numbers(rt: HostRuntime) -> Result<(), Fail> {
-    check_refused(&rt, Page::new(16), 15, 0)?;
-    check_refused(&rt, Sector::new(16), 15, 0)?;
-    assert!(rt; Page::new(15).is_ok() && Sector::new(15).is_ok());
+    check_refused(&rt, Page::try_from(16), (15, 0));
+    check_refused(&rt, Sector::try_from(16), (15, 0));
+    assert!(rt; Page::try_from(15).is_ok() && Sector::try_from(15).is_ok());
     Ok(())
 }
 
 // A buffer of the wrong length is refused before bytes past the end of a page.
 #[test]
 fn fills_of_a_short_buffer(rt: HostRuntime) -> Result<(), Fail> {
-    let page = Page::new(15)?;
+    let page = Page::try_from(15)?;
     let filling = Filling::new();
     let mut short = vec![in rt.alloc(); 7u8; 65535]?;
-    check_refused(&rt, filling.fill(&mut short, page, 0, &[1]), 1, 0)?;
-    check_refused(&rt, filling.fill(&mut short, page, 4095, &[1, 2]), 1, 0)?;
+    check_refused(&rt, filling.fill(&mut short, page, 0, &[1]), (1, 0));
+    check_refused(&rt, filling.fill(&mut short, page, 4095, &[1, 2]), (1, 0));
     // the board over it shows zeros and takes no writes
     let mut board = plain(&mut short);
-    check_refused(&rt, board.write(5, 1), 17, 5)?;
+    check_refused(&rt, board.write(5, 1), (17, 5));
     assert_eq!(rt; board.read(5), 0);
     Ok(())
 }
@@ -192,11 +148,15 @@ fn fills_of_a_short_buffer(rt: HostRuntime) -> Result<(), Fail> {
 // Bytes past the end of a page are refused at the offset given.
 #[test]
 fn fills(rt: HostRuntime) -> Result<(), Fail> {
-    let page = Page::new(15)?;
+    let page = Page::try_from(15)?;
     let filling = Filling::new();
     let mut bytes = vec![in rt.alloc(); 7u8; 65536]?;
-    check_refused(&rt, filling.fill(&mut bytes, page, 4095, &[1, 2]), 15, 4095)?;
-    check_refused(&rt, filling.fill(&mut bytes, page, 4097, &[]), 15, 4097)?;
+    check_refused(
+        &rt,
+        filling.fill(&mut bytes, page, 4095, &[1, 2]),
+        (15, 4095),
+    );
+    check_refused(&rt, filling.fill(&mut bytes, page, 4097, &[]), (15, 4097));
     filling.fill(&mut bytes, page, 4096, &[])?;
     filling.fill(&mut bytes, page, 4094, &[1, 2])?;
     let board = plain(&mut bytes);
@@ -212,10 +172,10 @@ fn fills(rt: HostRuntime) -> Result<(), Fail> {
 fn writes(rt: HostRuntime) -> Result<(), Fail> {
     let mut bytes = vec![in rt.alloc(); 7u8; 65536]?;
     let mut board = Filling::new()
-        .seal(PageSet::none().with(Page::new(6)?))
+        .seal(PageSet::none().with(Page::try_from(6)?))
         .board(&mut bytes);
-    check_refused(&rt, board.write(24576, 1), 17, 24576)?;
-    check_refused(&rt, board.write(28671, 1), 17, 28671)?;
+    check_refused(&rt, board.write(24576, 1), (17, 24576));
+    check_refused(&rt, board.write(28671, 1), (17, 28671));
     board.write(28672, 1)?;
     assert_eq!(rt;
         [board.read(24576), board.read(28671), board.read(28672)],
@@ -230,8 +190,7 @@ struct Opening {
     name: &'static str,
     job: u8,
     table: [u8; 15],
-    number: u8,
-    place: u32,
+    refused: (u8, u32),
 }
 
 // Each is tried while job 0 holds page 0 and page 6 is sealed.
@@ -240,101 +199,88 @@ const OPENINGS: [Opening; 13] = [
         name: "job 8",
         job: 8,
         table: [1, 0, 0, 0, 0, 0, 0, 0, 0, 0, 0, 0, 0, 0, 0],
-        number: 4,
-        place: 0,
+        refused: (4, 0),
     },
     Opening {
         name: "job 255",
         job: 255,
         table: TABLE,
-        number: 4,
-        place: 0,
+        refused: (4, 0),
     },
     Opening {
         name: "job 0 again",
         job: 0,
         table: [1, 0, 0, 0, 0, 0, 0, 0, 0, 0, 0, 0, 0, 0, 0],
-        number: 5,
-        place: 0,
+        refused: (5, 0),
     },
     Opening {
         name: "bit 0",
         job: 1,
         table: [0, 0, 0, 1, 0, 0, 0, 0, 0, 0, 0, 0, 0, 0, 0],
-        number: 7,
-        place: 3,
+        refused: (7, 3),
     },
     Opening {
         name: "bit 1, twice",
         job: 1,
         table: [0, 0, 0, 0, 0, 0, 0, 0, 0, 0, 0, 0, 0, 2, 3],
-        number: 7,
-        place: 13,
+        refused: (7, 13),
     },
     // an entry at the end comes before page 2 named twice at the start
     Opening {
         name: "7 before 8",
         job: 1,
         table: [44, 36, 0, 0, 0, 0, 0, 0, 0, 0, 0, 0, 0, 0, 1],
-        number: 7,
-        place: 14,
+        refused: (7, 14),
     },
     Opening {
         name: "page 2 twice",
         job: 1,
         table: [44, 0, 36, 0, 0, 0, 0, 0, 0, 0, 0, 0, 0, 0, 0],
-        number: 8,
-        place: 2,
+        refused: (8, 2),
     },
     Opening {
         name: "a sealed page twice",
         job: 1,
         table: [100, 0, 0, 0, 0, 0, 0, 0, 0, 0, 0, 0, 0, 0, 100],
-        number: 8,
-        place: 14,
+        refused: (8, 14),
     },
     Opening {
         name: "8 before 9",
         job: 1,
         table: [108, 36, 36, 0, 0, 0, 0, 0, 0, 0, 0, 0, 0, 0, 0],
-        number: 8,
-        place: 2,
+        refused: (8, 2),
     },
     Opening {
         name: "writing to a sealed page",
         job: 1,
         table: [0, 108, 0, 0, 0, 0, 0, 0, 0, 0, 0, 0, 0, 0, 0],
-        number: 9,
-        place: 1,
+        refused: (9, 1),
     },
     Opening {
         name: "9 before 10",
         job: 1,
         table: [12, 108, 0, 0, 0, 0, 0, 0, 0, 0, 0, 0, 0, 0, 0],
-        number: 9,
-        place: 1,
+        refused: (9, 1),
     },
     Opening {
         name: "page 0 is held",
         job: 1,
         table: [76, 12, 0, 0, 0, 0, 0, 0, 0, 0, 0, 0, 0, 0, 0],
-        number: 10,
-        place: 1,
+        refused: (10, 1),
     },
     Opening {
         name: "page 0 is held, for reading",
         job: 1,
         table: [76, 0, 4, 0, 0, 0, 0, 0, 0, 0, 0, 0, 0, 0, 0],
-        number: 10,
-        place: 2,
+        refused: (10, 2),
     },
 ];
 
 // A board with page 6 sealed, and a 9 at the start of pages 4 and 6.
 fn board_with_nines<'a>(bytes: &'a mut [u8]) -> Result<SingleBoard<'a>, Refusal> {
-    let sealed = Page::new(6)?;
+    let sealed = Page::try_from(6)?;
     let filling = Filling::new();
-    filling.fill(bytes, Page::new(4)?, 0, &[9])?;
+    filling.fill(bytes, Page::try_from(4)?, 0, &[9])?;
     filling.fill(bytes, sealed, 0, &[9])?;
     Ok(filling.seal(PageSet::none().with(sealed)).board(bytes))
 }
@@ -353,15 +299,10 @@ fn openings_refused(rt: HostRuntime) -> Result<(), Fail> {
     )?;
     let mut state = State::blank();
     for row in &OPENINGS {
-        check_named(
-            &rt,
-            row.name,
-            engine.open(&mut board, row.job, row.table, 0),
-            row.number,
-            row.place,
-        )?;
+        let answer = engine.open(&mut board, row.job, row.table, 0);
+        check_answer(&rt, row.name, answer, Some(row.refused));
         assert_eq!(rt; board.read(16384), 9, "{}", row.name);
-        check_named(&rt, row.name, engine.state(1, &mut state), 6, 0)?;
+        check_answer(&rt, row.name, engine.state(1, &mut state), Some((6, 0)));
     }
     Ok(())
 }
@@ -404,22 +345,25 @@ fn openings_accepted(rt: HostRuntime) -> Result<(), Fail> {
     Ok(())
 }
 
-// A load, and how it is refused: number 0 where it is accepted.
+// A load, and how it is refused, if it is.
 #[derive(Clone, Copy)]
 struct Loading {
     name: &'static str,
     job: u8,
     at: u16,
     bytes: &'static [u8],
-    number: u8,
-    place: u32,
+    refused: Option<(u8, u32)>,
 }
 
 // Job 0 has page 0 in sector 0, nothing in 1, the sealed page 6 in 2, page 7 without bit 3 in 3, the sealed page 9 in 4, and page 8 in 14.
 fn check_loads<R: Abort + AllocGlobal>(rt: &R, rows: &[Loading]) -> Result<(), Fail> {
     let mut bytes = vec![in rt.alloc(); 0u8; 65536]?;
     let mut board = Filling::new()
-        .seal(PageSet::none().with(Page::new(6)?).with(Page::new(9)?))
+        .seal(
+            PageSet::none()
+                .with(Page::try_from(6)?)
+                .with(Page::try_from(9)?),
+        )
         .board(&mut bytes);
     let mut engine = Engine::new();
     engine.open(
@@ -430,11 +374,7 @@ fn check_loads<R: Abort + AllocGlobal>(rt: &R, rows: &[Loading]) -> Result<(), F
     )?;
     for row in rows {
         let answer = engine.load(&mut board, row.job, row.at, row.bytes);
-        if row.number == 0 {
-            answer?;
-        } else {
-            check_named(rt, row.name, answer, row.number, row.place)?;
-        }
+        check_answer(rt, row.name, answer, row.refused);
     }
     // the bytes of the accepted ones are there, and none of the others
     assert_eq!(rt;
@@ -469,128 +409,112 @@ fn loads(rt: HostRuntime) -> Result<(), Fail> {
                 job: 0,
                 at: 4094,
                 bytes: &[1, 2],
-                number: 0,
-                place: 0,
+                refused: None,
             },
             Loading {
                 name: "accepted without bit 3",
                 job: 0,
                 at: 12288,
                 bytes: &[3],
-                number: 0,
-                place: 0,
+                refused: None,
             },
             Loading {
                 name: "accepted in sector 14",
                 job: 0,
                 at: 61439,
                 bytes: &[4],
-                number: 0,
-                place: 0,
+                refused: None,
             },
             Loading {
                 name: "no byte",
                 job: 0,
                 at: 65535,
                 bytes: &[],
-                number: 0,
-                place: 0,
+                refused: None,
             },
             Loading {
                 name: "no byte in a sealed page",
                 job: 0,
                 at: 8192,
                 bytes: &[],
-                number: 0,
-                place: 0,
+                refused: None,
             },
             Loading {
                 name: "job 8",
                 job: 8,
                 at: 65535,
                 bytes: &[9, 9],
-                number: 4,
-                place: 0,
+                refused: Some((4, 0)),
             },
             Loading {
                 name: "job 7 is not open",
                 job: 7,
                 at: 65535,
                 bytes: &[9, 9],
-                number: 6,
-                place: 0,
+                refused: Some((6, 0)),
             },
             Loading {
                 name: "past the end",
                 job: 0,
                 at: 65535,
                 bytes: &[9, 9],
-                number: 15,
-                place: 65535,
+                refused: Some((15, 65535)),
             },
             Loading {
                 name: "up to the end",
                 job: 0,
                 at: 65535,
                 bytes: &[9],
-                number: 16,
-                place: 65535,
+                refused: Some((16, 65535)),
             },
             Loading {
                 name: "the second byte",
                 job: 0,
                 at: 4095,
                 bytes: &[9, 9],
-                number: 16,
-                place: 4096,
+                refused: Some((16, 4096)),
             },
             Loading {
                 name: "the first byte",
                 job: 0,
                 at: 8191,
                 bytes: &[9, 9],
-                number: 16,
-                place: 8191,
+                refused: Some((16, 8191)),
             },
             Loading {
                 name: "behind an allowed one",
                 job: 0,
                 at: 61439,
                 bytes: &[9, 9],
-                number: 16,
-                place: 61440,
+                refused: Some((16, 61440)),
             },
             Loading {
                 name: "a sealed page",
                 job: 0,
                 at: 8192,
                 bytes: &[9, 9],
-                number: 17,
-                place: 8192,
+                refused: Some((17, 8192)),
             },
             Loading {
                 name: "a sealed page at the first byte",
                 job: 0,
                 at: 12287,
                 bytes: &[9, 9],
-                number: 17,
-                place: 12287,
+                refused: Some((17, 12287)),
             },
             Loading {
                 name: "a sealed page at the second byte",
                 job: 0,
                 at: 16383,
                 bytes: &[9, 9],
-                number: 17,
-                place: 16384,
+                refused: Some((17, 16384)),
             },
             Loading {
                 name: "16 at the last byte before 17 at the first",
                 job: 0,
                 at: 20479,
                 bytes: &[9, 9],
-                number: 16,
-                place: 20480,
+                refused: Some((16, 20480)),
             },
         ],
     )
@@ -601,16 +525,17 @@ fn loads(rt: HostRuntime) -> Result<(), Fail> {
 fn jobs_not_open(rt: HostRuntime) -> Result<(), Fail> {
     let mut bytes = zeros(&rt)?;
     let mut board = plain(&mut bytes);
-    let mut engine = Engine::new();
-    check_refusal(&rt, "", run_eighth(&mut engine, &mut board), 4, 0)?;
-    check_refused(&rt, watch(&mut engine, &mut board, 9), 6, 0)?;
-    engine.open(&mut board, 0, TABLE, 44)?;
-    let mut state = State::blank();
-    engine.state(0, &mut state)?;
-    check_refused(&rt, engine.state(8, &mut state), 4, 0)?;
-    check_refused(&rt, engine.state(1, &mut state), 6, 0)?;
-    assert_eq!(rt; state.processor.p, 44);
-    Ok(())
+    at_desk(|desk| {
+        check_refused(&rt, desk.run(&mut board, 8, 9), (4, 0));
+        check_refused(&rt, desk.run(&mut board, 0, 9), (6, 0));
+        desk.open(&mut board, 0, TABLE, 44)?;
+        let mut state = State::blank();
+        desk.state(0, &mut state)?;
+        check_refused(&rt, desk.state(8, &mut state), (4, 0));
+        check_refused(&rt, desk.state(1, &mut state), (6, 0));
+        assert_eq!(rt; state.processor.p, 44);
+        Ok(())
+    })
 }
 
 // A job that has ended, since zeros are HALT: it does not run and is not opened again, and takes bytes.
@@ -618,24 +543,25 @@ fn jobs_not_open(rt: HostRuntime) -> Result<(), Fail> {
 fn jobs_ended(rt: HostRuntime) -> Result<(), Fail> {
     let mut bytes = zeros(&rt)?;
     let mut board = plain(&mut bytes);
-    let mut engine = Engine::new();
-    engine.open(&mut board, 0, TABLE, 44)?;
-    let seen = watch(&mut engine, &mut board, 9)?;
-    check_refused(&rt, watch(&mut engine, &mut board, 0), 12, 0)?;
-    check_refused(&rt, engine.open(&mut board, 0, TABLE, 0), 5, 0)?;
-    engine.load(&mut board, 0, 0, &[1])?;
-    let mut state = State::blank();
-    engine.state(0, &mut state)?;
-    assert_eq!(rt;
-        (
-            seen.run.stop.number(),
-            state.steps,
-            state.processor.p,
-            board.read(0),
-        ),
-        (2, 1, 45, 1)
-    );
-    Ok(())
+    at_desk(|desk| {
+        desk.open(&mut board, 0, TABLE, 44)?;
+        let seen = watch(desk, &mut board, 9)?;
+        check_refused(&rt, watch(desk, &mut board, 0), (12, 0));
+        check_refused(&rt, desk.open(&mut board, 0, TABLE, 0), (5, 0));
+        desk.load(&mut board, 0, 0, &[1])?;
+        let mut state = State::blank();
+        desk.state(0, &mut state)?;
+        assert_eq!(rt;
+            (
+                seen.run.stop.number(),
+                state.steps,
+                state.processor.p,
+                board.read(0),
+            ),
+            (2, 1, 45, 1)
+        );
+        Ok(())
+    })
 }
 
 // A receipt: its job waits, another engine refuses it, with 6 where it has no such job open and with 14 where that does not wait, and its own engine takes it and closes the job.
@@ -654,13 +580,10 @@ fn receipts(rt: HostRuntime) -> Result<(), Fail> {
         };
         // counted from 1 at each opening
         assert_eq!(rt; shown.number, 1);
-        check_refusal(&rt, "", shown.waiting, 11, 0)?;
-        check_refused(&rt, shown.closing, 11, 0)?;
-        let Some(refusal) = shown.elsewhere else {
-            return Err(Fail::new("another engine took the receipt"));
-        };
-        check_refusal(&rt, "", refusal, number, 0)?;
-        check_refused(&rt, engine.state(0, &mut state), 6, 0)?;
+        assert_eq!(rt; told(shown.waiting), (11, 0));
+        check_refused(&rt, shown.closing, (11, 0));
+        assert_eq!(rt; shown.elsewhere.map(told), Some((number, 0)));
+        check_refused(&rt, engine.state(0, &mut state), (6, 0));
         if number == 6 {
             other.open(&mut board, 0, TABLE, 0)?;
         }
@@ -676,33 +599,40 @@ fn receipts(rt: HostRuntime) -> Result<(), Fail> {
 fn replies(rt: HostRuntime) -> Result<(), Fail> {
     let mut bytes = zeros(&rt)?;
     let mut board = plain(&mut bytes);
-    let mut engine = Engine::new();
-    engine.open(&mut board, 0, TABLE, 0)?;
-    engine.load(&mut board, 0, 0, &[0o067, 0o067])?;
-    let registers = Registers {
-        a: 1,
-        b: 2,
-        c: 3,
-        d: 4,
-        e: 5,
-        h: 6,
-        l: 7,
-        x: 8,
-    };
-    let first = run_and_reply(&mut engine, &mut board, registers)?;
-    let seen = watch(&mut engine, &mut board, 9)?;
-    let bank = seen.state.processor.bank();
-    assert_eq!(rt;
-        (first, seen.owed, seen.state.steps, seen.state.processor.p),
-        (Some(1), 2, 2, 2)
-    );
-    assert_eq!(rt;
-        [
-            bank.a, bank.b, bank.c, bank.d, bank.e, bank.h, bank.l, bank.x,
-        ],
-        [1, 2, 3, 4, 5, 6, 7, 8]
-    );
-    Ok(())
+    at_desk(|desk| {
+        desk.open(&mut board, 0, TABLE, 0)?;
+        desk.load(&mut board, 0, 0, &[0o067, 0o067])?;
+        let registers = Registers {
+            a: 1,
+            b: 2,
+            c: 3,
+            d: 4,
+            e: 5,
+            h: 6,
+            l: 7,
+            x: 8,
+        };
+        let first = watch(desk, &mut board, 9)?;
+        assert_eq!(rt; desk.reply(0, 1, registers), Ok(()));
+        let seen = watch(desk, &mut board, 9)?;
+        let bank = seen.state.processor.bank();
+        assert_eq!(rt;
+            (
+                first.owed,
+                seen.owed,
+                seen.state.steps,
+                seen.state.processor.p
+            ),
+            (Some(1), Some(2), 2, 2)
+        );
+        assert_eq!(rt;
+            [
+                bank.a, bank.b, bank.c, bank.d, bank.e, bank.h, bank.l, bank.x,
+            ],
+            [1, 2, 3, 4, 5, 6, 7, 8]
+        );
+        Ok(())
+    })
 }
 
 // A look fills the whole buffer, or leaves it as it was.
@@ -714,10 +644,10 @@ fn looks(rt: HostRuntime) -> Result<(), Fail> {
     engine.open(&mut board, 0, TABLE, 0)?;
     engine.load(&mut board, 0, 4095, &[1, 2])?;
     let mut out = [9u8; 2];
-    check_refused(&rt, engine.look(&board, 8, 65535, &mut out), 4, 0)?;
-    check_refused(&rt, engine.look(&board, 7, 65535, &mut out), 6, 0)?;
-    check_refused(&rt, engine.look(&board, 0, 65535, &mut out), 15, 65535)?;
-    check_refused(&rt, engine.look(&board, 0, 8191, &mut out), 16, 8192)?;
+    check_refused(&rt, engine.look(&board, 8, 65535, &mut out), (4, 0));
+    check_refused(&rt, engine.look(&board, 7, 65535, &mut out), (6, 0));
+    check_refused(&rt, engine.look(&board, 0, 65535, &mut out), (15, 65535));
+    check_refused(&rt, engine.look(&board, 0, 8191, &mut out), (16, 8192));
     assert_eq!(rt; out, [9, 9]);
     engine.look(&board, 0, 4095, &mut out)?;
     assert_eq!(rt; out, [1, 2]);
@@ -732,9 +662,9 @@ fn closings(rt: HostRuntime) -> Result<(), Fail> {
     let mut engine = Engine::new();
     engine.open(&mut board, 0, TABLE, 0)?;
     engine.load(&mut board, 0, 0, &[5])?;
-    check_refused(&rt, engine.close(8), 4, 0)?;
-    check_refused(&rt, engine.close(1), 6, 0)?;
-    check_refused(&rt, engine.open(&mut board, 1, TABLE, 0), 10, 0)?;
+    check_refused(&rt, engine.close(8), (4, 0));
+    check_refused(&rt, engine.close(1), (6, 0));
+    check_refused(&rt, engine.open(&mut board, 1, TABLE, 0), (10, 0));
     engine.close(0)?;
     assert_eq!(rt; board.read(0), 5);
     engine.open(&mut board, 1, TABLE, 0)?;
@@ -747,25 +677,26 @@ fn closings(rt: HostRuntime) -> Result<(), Fail> {
 fn another_memory(rt: HostRuntime) -> Result<(), Fail> {
     let mut bytes = zeros(&rt)?;
     let mut board = plain(&mut bytes);
-    let mut engine = Engine::new();
-    engine.open(&mut board, 0, TABLE, 0)?;
-    let mut others = zeros(&rt)?;
-    let filling = Filling::new();
-    // LA 1, LMA
-    filling.fill(&mut others, Page::new(0)?, 0, &[0o006, 1, 0o370])?;
-    let mut fixed = filling
-        .seal(PageSet::none().with(Page::new(0)?))
-        .board(&mut others);
-    check_refused(&rt, engine.load(&mut fixed, 0, 5, &[1]), 17, 5)?;
-    let seen = watch(&mut engine, &mut fixed, 9)?;
-    assert_eq!(rt;
-        (
-            seen.run.stop.number(),
-            seen.run.steps,
-            seen.state.processor.p,
-            fixed.read(0),
-        ),
-        (7, 1, 2, 0o006)
-    );
-    Ok(())
+    at_desk(|desk| {
+        desk.open(&mut board, 0, TABLE, 0)?;
+        let mut others = zeros(&rt)?;
+        let filling = Filling::new();
+        // LA 1, LMA
+        filling.fill(&mut others, Page::try_from(0)?, 0, &[0o006, 1, 0o370])?;
+        let mut fixed = filling
+            .seal(PageSet::none().with(Page::try_from(0)?))
+            .board(&mut others);
+        check_refused(&rt, desk.load(&mut fixed, 0, 5, &[1]), (17, 5));
+        let seen = watch(desk, &mut fixed, 9)?;
+        assert_eq!(rt;
+            (
+                seen.run.stop.number(),
+                seen.run.steps,
+                seen.state.processor.p,
+                fixed.read(0),
+            ),
+            (7, 1, 2, 0o006)
+        );
+        Ok(())
+    })
 }

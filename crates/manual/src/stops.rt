@@ -1,11 +1,10 @@
 // Each stop, with the steps, the time and P, and what it makes of the job.
-use super::bench::{TABLE, plain, trial, watch, zeros};
-use engine::jobs::Engine;
+use super::bench::{TABLE, at_desk, plain, trial, watch, zeros};
 use model::job::Status;
 use std::process::Abort;
 use std::test::*;
 
-// A program, and the run's stop, steps and time with P after it.
+// A program, and the run's stop, by the number that is printed, its steps and its time, with P after it.
 #[derive(Clone, Copy)]
 struct Stopped {
     name: &'static str,
@@ -44,10 +43,10 @@ fn check_stops<R: Abort + AllocGlobal>(rt: &R, rows: &[Stopped]) -> Result<(), F
             row.name
         );
         // a system call has a receipt with its number, and nothing else has one
-        let owed = if row.stop == 3 { 1 } else { 0 };
+        let owed = (row.stop == 3).then_some(1);
         assert_eq!(rt;
             (seen.state.status, seen.owed, seen.state.calls),
-            (status_by(row.stop), owed, owed),
+            (status_by(row.stop), owed, owed.unwrap_or(0)),
             "{}",
             row.name
         );
@@ -551,10 +550,11 @@ fn at_the_edge(rt: HostRuntime) -> Result<(), Fail> {
         (0o101, 5),
         (0o005, 8),
     ] {
-        let mut engine = Engine::new();
-        engine.open(&mut board, 0, TABLE, 8191)?;
-        engine.load(&mut board, 0, 8191, &[op])?;
-        let seen = watch(&mut engine, &mut board, 9)?;
+        let seen = at_desk(|desk| {
+            desk.open(&mut board, 0, TABLE, 8191)?;
+            desk.load(&mut board, 0, 8191, &[op])?;
+            watch(desk, &mut board, 9)
+        })?;
         assert_eq!(rt;
             (
                 seen.run.stop.number(),
@@ -572,28 +572,29 @@ fn at_the_edge(rt: HostRuntime) -> Result<(), Fail> {
 fn going_on(rt: HostRuntime) -> Result<(), Fail> {
     let mut bytes = zeros(&rt)?;
     let mut board = plain(&mut bytes);
-    let mut engine = Engine::new();
-    engine.open(&mut board, 0, TABLE, 0)?;
-    engine.load(&mut board, 0, 0, &[0o006, 5, 0o052, 0o004, 3, 0o000])?;
-    let first = watch(&mut engine, &mut board, 1)?;
-    let second = watch(&mut engine, &mut board, 9)?;
-    let third = watch(&mut engine, &mut board, 9)?;
-    assert_eq!(rt;
-        [
-            first.run.stop.number(),
-            second.run.stop.number(),
-            third.run.stop.number(),
-        ],
-        [1, 4, 2]
-    );
-    assert_eq!(rt;
-        (
-            third.run.steps,
-            third.run.time,
-            third.state.processor.bank().a,
-        ),
-        (2, 2200, 8)
-    );
-    assert_eq!(rt; (third.state.steps, third.state.time), (4, 6200));
-    Ok(())
+    at_desk(|desk| {
+        desk.open(&mut board, 0, TABLE, 0)?;
+        desk.load(&mut board, 0, 0, &[0o006, 5, 0o052, 0o004, 3, 0o000])?;
+        let first = watch(desk, &mut board, 1)?;
+        let second = watch(desk, &mut board, 9)?;
+        let third = watch(desk, &mut board, 9)?;
+        assert_eq!(rt;
+            [
+                first.run.stop.number(),
+                second.run.stop.number(),
+                third.run.stop.number(),
+            ],
+            [1, 4, 2]
+        );
+        assert_eq!(rt;
+            (
+                third.run.steps,
+                third.run.time,
+                third.state.processor.bank().a,
+            ),
+            (2, 2200, 8)
+        );
+        assert_eq!(rt; (third.state.steps, third.state.time), (4, 6200));
+        Ok(())
+    })
 }

@@ -6,18 +6,22 @@ ghost use Rattle.memory.specs.Numbers.{page_number};
 use super::page::Page;
 use refusal::{Ground, Refusal};
 
-impl Page {
-    // Refused with 15 at 0 above fifteen.
-    pub fn new(number: u8) -> Result<Page, Refusal>
-        ensures { page_number result ≡ sixteenth number }
-    {
+// Refused with 15 at 0 above fifteen.
+impl TryFrom<u8> for Page {
+    type Error = Refusal;
+
+    ghost try_from_gives = { λ number made. page_number made ≡ sixteenth number };
+
+    fn try_from(number: u8) -> Result<Page, Refusal> {
         if number < 16 {
             Ok(Page { number })
         } else {
             Err(Ground::OutOfRange.at(0))
         }
     }
+}
 
+impl Page {
     // The page of an address in memory.
     pub fn of(at: u16) -> Page
         ensures { result.number ≡ page_at at }

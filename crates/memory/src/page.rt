@@ -1,3 +1,5 @@
+// The numbers of pages and of sectors. They are two types, and not one with a marker: with a type parameter a struct that has a ghost field
+// derives neither `Clone` nor `Copy`.
 ghost use Rattle.std.specs.Prelude.{ℕ, ◌<◌};
 
 // A page of memory. It counts in memory, and is no sector.

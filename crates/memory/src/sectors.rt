@@ -6,18 +6,22 @@ ghost use Rattle.memory.specs.Numbers.{sector_number};
 use super::page::Sector;
 use refusal::{Ground, Refusal};
 
-impl Sector {
-    // Refused with 15 at 0 above fifteen.
-    pub fn new(number: u8) -> Result<Sector, Refusal>
-        ensures { sector_number result ≡ sixteenth number }
-    {
+// Refused with 15 at 0 above fifteen.
+impl TryFrom<u8> for Sector {
+    type Error = Refusal;
+
+    ghost try_from_gives = { λ number made. sector_number made ≡ sixteenth number };
+
+    fn try_from(number: u8) -> Result<Sector, Refusal> {
         if number < 16 {
             Ok(Sector { number })
         } else {
             Err(Ground::OutOfRange.at(0))
         }
     }
+}
 
+impl Sector {
     // The sector of a job's address.
     pub fn of(at: u16) -> Sector
         ensures { result.number ≡ at / 4096 }

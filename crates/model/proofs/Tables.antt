@@ -1,11 +1,12 @@
 -- Tables that name no page twice, and the loop over the jobs.
+use Rattle.std.proofs.lemmas.Bool.{and_from}
 use Rattle.std.proofs.Common.{◌≡◌, ℕ, ◌+◌, ◌<◌, Bool, true, false, not, ◌&&◌, ◌||◌, eqb, is_some, Some, None, Option, sym, refl, add-one, arith}
 use Rattle.refusal.specs.Judging.{first_from}
 use Rattle.refusal.proofs.Searches.{none_passes}
 use Rattle.table.specs.Tables.{Apart, entry_of, access_in}
 use Rattle.pages.specs.Held.{Table, page_of, named, holds}
 use Rattle.pages.specs.Entries.{again_at}
-use Rattle.pages.proofs.Truths.{clash, both}
+use Rattle.pages.proofs.Truths.{clash}
 use Rattle.pages.proofs.Spaces.{named_at, access_low}
 use Rattle.model.specs.declared.job.Job.{Job}
 use Rattle.model.specs.Worlds.{any, held_by, twice}
@@ -17,7 +18,7 @@ none_there None e = refl
 no_lower : (t : Table) → twice t ≡ false → (i l : ℕ) → i < l → access_in (entry_of t i) ≡ true → access_in (entry_of t l) ≡ true → page_of t i ≡ page_of t l → ⊥
 no_lower t one i l h a b e =
     clash (again_at t l)
-    (both (access_in (entry_of t l)) (named l t (page_of t l)) b (named_at l t (page_of t l) i (record { low = h; access = a; page = e })))
+    (and_from (access_in (entry_of t l)) (named l t (page_of t l)) b (named_at l t (page_of t l) i (record { low = h; access = a; page = e })))
     (let low : l < 15 = access_low t l b in none_passes (again_at t) 15 0 (none_there (first_from 15 0 (again_at t)) one) l (omega arith) (omega arith))
 
 pub once_apart : (t : Table) → twice t ≡ false → Apart t

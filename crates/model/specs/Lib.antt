@@ -2,3 +2,4 @@ pub mod Jobs
 pub mod Calls
 pub mod Acts
 pub mod Worlds
+pub mod Words

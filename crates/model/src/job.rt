@@ -1,4 +1,9 @@
+// A job's record, and what is given and told of it.
+ghost use Rattle.std.specs.Prelude.{Some};
+ghost use Rattle.model.specs.Words.{word_of};
+
 use registers::processor::Processor;
+use std::fmt;
 
 #[derive(Clone, Copy, PartialEq, Eq, Debug)]
 pub enum Status {
@@ -6,6 +11,19 @@ pub enum Status {
     Ready,
     Waiting,
     Ended,
+}
+
+impl fmt::Display for Status {
+    ghost output = { λ s. Some (word_of s) };
+
+    fn fmt<W: fmt::Write>(&self, f: &mut fmt::Formatter<W>) -> fmt::Result {
+        f.write_str(match self {
+            Status::Closed => "closed",
+            Status::Ready => "ready",
+            Status::Waiting => "waiting",
+            Status::Ended => "ended",
+        })
+    }
 }
 
 // A job's record: its processor and table, the steps, nanoseconds and system calls since its opening, and its status.
@@ -20,6 +38,7 @@ pub struct Job {
 }
 
 // What a job shows of itself when it is asked for its state. Its status is never `Closed`.
+// A record that held this as one field would read `job.state.steps` in every definition.
 #[derive(Clone, Copy)]
 pub struct State {
     pub processor: Processor,
@@ -29,7 +48,7 @@ pub struct State {
     pub status: Status,
 }
 
-// The eight registers of a bank, as a reply gives them.
+// The eight registers of a bank, as a reply gives them: without flags, which is why it is no `Bank`.
 #[derive(Clone, Copy, PartialEq, Eq, Debug)]
 pub struct Registers {
     pub a: u8,

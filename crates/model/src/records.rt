@@ -13,28 +13,19 @@ impl Status {
     pub fn is_open(self) -> bool
         ensures { result ≡ open_status self }
     {
-        match self {
-            Status::Closed => false,
-            Status::Ready | Status::Waiting | Status::Ended => true,
-        }
+        self != Status::Closed
     }
 
     pub fn is_waiting(self) -> bool
         ensures { result ≡ waiting_status self }
     {
-        match self {
-            Status::Waiting => true,
-            Status::Closed | Status::Ready | Status::Ended => false,
-        }
+        self == Status::Waiting
     }
 
     pub fn is_ended(self) -> bool
         ensures { result ≡ ended_status self }
     {
-        match self {
-            Status::Ended => true,
-            Status::Closed | Status::Ready | Status::Waiting => false,
-        }
+        self == Status::Ended
     }
 }
 
@@ -84,10 +75,8 @@ impl Job {
         Job {
             processor: Processor::reset(start),
             table,
-            steps: 0,
-            time: 0,
-            calls: 0,
             status: Status::Ready,
+            ..Job::closed()
         }
     }
 
@@ -105,8 +94,9 @@ impl Job {
             l,
             x,
         } = registers;
-        let flags = self.processor.bank().flags;
-        self.processor.set_bank(Bank {
+        let bank = self.processor.bank_mut();
+        let flags = bank.flags;
+        *bank = Bank {
             a,
             b,
             c,
@@ -116,7 +106,7 @@ impl Job {
             l,
             x,
             flags,
-        });
+        };
         self.status = Status::Ready;
         self
     }

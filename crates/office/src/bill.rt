@@ -25,7 +25,7 @@ impl Bill {
     pub fn agrees(&self, other: &Bill) -> bool
         ensures { Decides result (Agrees self.now other.now) }
     {
-        same_charges(self.charges.as_slice(), other.charges.as_slice())
+        same_charges(&self.charges, &other.charges)
             && self.steps == other.steps
             && self.time == other.time
     }

@@ -1,25 +1,22 @@
 // Amounts of money.
-ghost use Rattle.std.specs.Prelude.{◌≡◌, ℕ, ◌-◌, ◌^◌, min, Some, Decides, nat_eq};
-ghost use Rattle.std.specs.Ordering.{on};
+ghost use Rattle.std.specs.Prelude.{◌≡◌, ◌-◌, ◌^◌, min, Some};
 ghost use Rattle.office.specs.Charges.{charge_of, sum_of, money_of};
-ghost use Rattle.std.specs.Cmp.Rules.{comparing};
-ghost use Rattle.std.proofs.Common.{rules};
 
 use std::fmt;
 
 // An amount in cents.
-#[derive(Clone, Copy)]
+#[derive(Clone, Copy, Debug, PartialEq, Eq)]
 pub struct Charge {
     pub cents: u64,
 }
 
 impl Charge {
-    // Three bytes, high byte first, as a program delivers them.
+    // Three bytes, high byte first, as a program delivers them. No From of an array, which would not say the order.
     pub fn of_bytes(high: u8, middle: u8, low: u8) -> Charge
         ensures { result ≡ charge_of high middle low }
     {
         Charge {
-            cents: high as u64 * 65536 + middle as u64 * 256 + low as u64,
+            cents: u64::from(high) * 65536 + u64::from(middle) * 256 + u64::from(low),
         }
     }
 
@@ -27,21 +24,10 @@ impl Charge {
     pub fn total(charges: &[Charge]) -> Charge
         ensures { result.cents ≡ min (sum_of charges.now) (2 ^ 64 - 1) }
     {
-        let mut cents: u64 = 0;
-        for charge in charges {
-            cents = cents.saturating_add(charge.cents);
-        }
+        let cents = charges
+            .iter()
+            .fold(0u64, |sum, charge| sum.saturating_add(charge.cents));
         Charge { cents }
-    }
-}
-
-impl PartialEq for Charge {
-    ghost eq = { on (λ v. v.cents) nat_eq };
-
-    ghost laws = { Prim.search (comparing, rules) };
-
-    fn eq(&self, other: &Charge) -> bool {
-        self.cents == other.cents
     }
 }
 

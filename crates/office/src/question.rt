@@ -24,10 +24,11 @@ pub enum Question {
     Unknown(u8),
 }
 
-impl Question {
-    pub fn of(bank: &Bank) -> Question
-        ensures { result ≡ question_of bank.now }
-    {
+// What the registers of a program that waits say.
+impl From<&Bank> for Question {
+    ghost from_gives = { λ bank q. q ≡ question_of bank.now };
+
+    fn from(bank: &Bank) -> Question {
         match bank.a {
             1 => Question::Next,
             2 => Question::Delivers(Charge::of_bytes(bank.b, bank.c, bank.d)),

@@ -2,7 +2,7 @@
 use Rattle.std.proofs.Common.{◌≡◌, ℕ, ◌+◌, ◌-◌, ◌*◌, ◌/◌, ◌%◌, ◌<◌, ◌≤◌, Bool, true, false, cond, ◌&&◌, eqb, ltb, leb, List, length, get_or, None, Ok, sym, refl, ap, ◌∙◌, arith, eq-eqb, ne_eqb, eqb-true}
 use mathlib.Core.Path.{fun_ext}
 use borrow.Author.Tests.{eqb-false}
-use Rattle.std.proofs.lemmas.Bool.{not-false, ltb-false}
+use Rattle.std.proofs.lemmas.Bool.{not-false, ltb-false, and_from}
 use Rattle.std.proofs.lemmas.Bool.Decides.{nat_tests}
 use Rattle.refusal.specs.declared.Ground.TheVariants.{OutOfRange, NoAccess, NoWrites}
 use Rattle.refusal.specs.Judging.{at, picked, first_from}
@@ -14,7 +14,7 @@ use Rattle.table.proofs.Places.{one_place}
 use Rattle.pages.specs.Held.{Table, page_of, shown, bytes_of, holds, back, back_byte}
 use Rattle.pages.specs.Entries.{shut_at, refuses_at}
 use Rattle.pages.specs.Loads.{past, judge_load, laid_to, laid}
-use Rattle.pages.proofs.Truths.{clash, and_right, both, by_test}
+use Rattle.pages.proofs.Truths.{clash, and_right, by_test}
 use Rattle.pages.proofs.Spaces.{lands, shown_at, place_page, holds_at}
 use Rattle.pages.proofs.Clears.{with_bytes}
 use Rattle.refusal.proofs.Judgements.{passed, nowhere}
@@ -107,7 +107,7 @@ module _ (t : Table) (once : Apart t) (a : ℕ) (bs : List ℕ) (m₀ : Mem) (fi
             ∙ ap (λ z. cond z (get_or bs i 0) (m.byte x)) (ne_eqb x (physical t (a + i)) (λ r.
             let page : x / 4096 ≡ page_of t ((a + i) / 4096) = ap (λ y. y / 4096) r ∙ place_page t (a + i) in
             clash (holds t (x / 4096) && m₀.takes (x / 4096))
-            (both (holds t (x / 4096)) (m₀.takes (x / 4096)) (ap (holds t) page ∙ holds_at t ((a + i) / 4096) (access_here h)) (ap m₀.takes page ∙ takes_here h)) q))
+            (and_from (holds t (x / 4096)) (m₀.takes (x / 4096)) (ap (holds t) page ∙ holds_at t ((a + i) / 4096) (access_here h)) (ap m₀.takes page ∙ takes_here h)) q))
             ∙ L.rest x q;
       }
 

@@ -1,4 +1,5 @@
 -- The algebra of a space that is written back.
+use Rattle.std.proofs.lemmas.Bool.{and_from}
 use Rattle.std.proofs.Common.{◌≡◌, ℕ, zero, suc, ◌+◌, ◌*◌, ◌/◌, ◌%◌, ◌<◌, Bool, true, false, cond, ◌&&◌, eqb, ◌≢◌, sym, refl, ap, ◌∙◌, arith, eq-eqb, eqb-true}
 use mathlib.Core.Path.{fun_ext}
 use borrow.Author.Tests.{eqb-false}
@@ -6,7 +7,7 @@ use Rattle.memory.specs.Memories.{Mem}
 use Rattle.space.specs.Cells.{Cell}
 use Rattle.table.specs.Tables.{Apart, entry_of, access_in, physical}
 use Rattle.pages.specs.Held.{Table, page_of, bytes_of, shown, Where, nowhere, sector, finds, is_there, named, holds, pick, back_byte, back, clip}
-use Rattle.pages.proofs.Truths.{clash, and_left, and_right, both, by_test}
+use Rattle.pages.proofs.Truths.{clash, and_left, and_right, by_test}
 
 -- What is found is a sector that has access to the page.
 pub record At (t : Table) (n p i : ℕ) : Type 0 where
@@ -25,7 +26,7 @@ wider : (t : Table) (n p : ℕ) (f : Where) → (access_in (entry_of t n) && eqb
 wider t n p nowhere e g = λ i a.
     by_test (eqb i n)
     (λ q. clash (access_in (entry_of t n) && eqb (page_of t n) p)
-    (both (access_in (entry_of t n)) (eqb (page_of t n) p) (ap (λ x. access_in (entry_of t x)) (sym (eqb-true i n q)) ∙ a.access) (eq-eqb (page_of t n) p (ap (page_of t) (sym (eqb-true i n q)) ∙ a.page)))
+    (and_from (access_in (entry_of t n)) (eqb (page_of t n) p) (ap (λ x. access_in (entry_of t x)) (sym (eqb-true i n q)) ∙ a.access) (eq-eqb (page_of t n) p (ap (page_of t) (sym (eqb-true i n q)) ∙ a.page)))
     e)
     (λ q. g i (record { low = (let ne : i ≢ n = eqb-false i n q in let h : i < suc n = a.low in omega arith); access = a.access; page = a.page }))
 wider t n p (sector i) e g = lower t n p i g
@@ -118,7 +119,7 @@ pub back_at : (t : Table) (bs : ℕ → ℕ) (m : Mem) (a : ℕ) → Apart t →
 back_at t bs m a once acc tk =
     back_all (λ v. v ≡ bs a) t bs m (physical t a)
     (λ e. clash (holds t (physical t a / 4096) && m.takes (physical t a / 4096))
-    (both (holds t (physical t a / 4096)) (m.takes (physical t a / 4096)) (ap (holds t) (place_page t a) ∙ holds_at t (a / 4096) acc) (ap m.takes (place_page t a) ∙ tk))
+    (and_from (holds t (physical t a / 4096)) (m.takes (physical t a / 4096)) (ap (holds t) (place_page t a) ∙ holds_at t (a / 4096) acc) (ap m.takes (place_page t a) ∙ tk))
     e)
     (λ i g e. let same : i ≡ a / 4096 = once i (a / 4096) (g.access, acc, g.page ∙ place_page t a) in
     ap bs (ap (λ y. y * 4096 + physical t a % 4096) same ∙ ap (λ y. a / 4096 * 4096 + y) (place_off t a) ∙ split a))

@@ -5,7 +5,7 @@ ghost use Rattle.pages.specs.Held.{back, zeroed, zeroed_page};
 
 use memory::Memory;
 use memory::page::Page;
-use table::entry::entry_of;
+use table::entry::Entry;
 
 // Puts a byte where the page takes writes.
 pub(crate) fn set_byte<M: Memory>(memory: &mut M, at: u16, b: u8)
@@ -29,8 +29,8 @@ fn clear_page<M: Memory>(memory: &mut M, page: Page)
 pub fn clear_pages<M: Memory>(table: &[u8; 15], memory: &mut M)
     ensures { M.mem memory.new ≡ back table.now (λ a. 0) (M.mem memory.old) }
 {
-    for s in 0..15u32 {
-        let entry = entry_of(table, s);
+    for bits in table {
+        let entry = Entry { bits: *bits };
         let page = entry.page();
         if entry.access() && memory.takes_writes(page) {
             clear_page(memory, page);

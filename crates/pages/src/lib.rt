@@ -5,3 +5,4 @@ pub mod clearing;
 pub mod entries;
 pub mod loading;
 pub mod looking;
+mod sight;

@@ -19,74 +19,62 @@ pub struct Carried {
     pub trap: Option<Trap>,
 }
 
+impl Carried {
+    // The run goes on.
+    fn on(course: Course) -> Carried
+        ensures { result ≡ record { course = course; trap = None } }
+    {
+        Carried { course, trap: None }
+    }
+
+    // The run ends.
+    fn ending(trap: Trap) -> Carried
+        ensures { result ≡ record { course = plain; trap = Some trap } }
+    {
+        Carried {
+            course: Course::default(),
+            trap: Some(trap),
+        }
+    }
+}
+
 fn plainly() -> Carried
     ensures { result ≡ record { course = plain; trap = None } }
 {
-    Carried {
-        course: Course {
-            taken: false,
-            elements: 0,
-            matched: false,
-            unmarked: false,
-        },
-        trap: None,
-    }
+    Carried::on(Course::default())
 }
 
 fn taking() -> Carried
     ensures { result ≡ record { course = taken; trap = None } }
 {
-    Carried {
-        course: Course {
-            taken: true,
-            elements: 0,
-            matched: false,
-            unmarked: false,
-        },
-        trap: None,
-    }
-}
-
-fn ending(trap: Trap) -> Carried
-    ensures { result ≡ record { course = plain; trap = Some trap } }
-{
-    Carried {
-        course: Course {
-            taken: false,
-            elements: 0,
-            matched: false,
-            unmarked: false,
-        },
-        trap: Some(trap),
-    }
+    Carried::on(Course {
+        taken: true,
+        ..Course::default()
+    })
 }
 
 fn load(cpu: &mut Processor, r: Register, v: u8)
     ensures { cpu.new ≡ loaded cpu.old r v }
 {
-    let mut bank = cpu.bank();
-    bank.put(r, v);
-    cpu.set_bank(bank);
+    cpu.bank_mut().put(r, v);
 }
 
 fn operate_on(cpu: &mut Processor, op: Operation, r: Register, v: u8)
     ensures { cpu.new ≡ operated_by cpu.old op r v }
 {
-    let mut bank = cpu.bank();
+    let bank = cpu.bank_mut();
     let outcome = operate(op, bank.get(r), v, bank.flags.carry);
     bank.put(r, outcome.byte);
     bank.flags = outcome.flags;
-    cpu.set_bank(bank);
 }
 
 fn shift(cpu: &mut Processor, s: Shift, r: Register)
     ensures { cpu.new ≡ turned cpu.old s r }
 {
-    let mut bank = cpu.bank();
+    let bank = cpu.bank_mut();
     let (byte, carry) = shifted(s, bank.get(r), bank.flags.carry);
     bank.put(r, byte);
     bank.flags.carry = carry;
-    cpu.set_bank(bank);
 }
 
 // The operand of an operation.
@@ -125,9 +113,7 @@ fn pop_into(cpu: &mut Processor, pair: Pair)
     ensures { cpu.new ≡ popped_into cpu.old pair }
 {
     let v = cpu.stack.pop();
-    let mut bank = cpu.bank();
-    bank.put_pair(pair, v);
-    cpu.set_bank(bank);
+    cpu.bank_mut().put_pair(pair, v);
 }
 
 // BT, BTR and BCV. The bank stands as after the elements done, whether all were or not.
@@ -135,24 +121,15 @@ fn move_block<S: Space>(cpu: &mut Processor, space: &mut S, kind: Block) -> Resu
     ensures all { effect result cpu.new (S.cells space.new) ≡ moved_by kind cpu.old (S.cells space.old) }
     ensures kept { S.frame space.new ≡ S.frame space.old }
 {
-    let mut bank = cpu.bank();
+    let bank = cpu.bank_mut();
     let unmarked = bank.b == 0;
-    match run_block(kind, &mut bank, space) {
-        Ok(moved) => {
-            cpu.set_bank(bank);
-            let course = Course {
-                taken: false,
-                elements: moved.elements,
-                matched: moved.matched,
-                unmarked,
-            };
-            Ok(Carried { course, trap: None })
-        }
-        Err(fault) => {
-            cpu.set_bank(bank);
-            Err(fault)
-        }
-    }
+    let moved = run_block(kind, bank, space)?;
+    Ok(Carried::on(Course {
+        taken: false,
+        elements: moved.elements,
+        matched: moved.matched,
+        unmarked,
+    }))
 }
 
 // BFAC and BFSB.
@@ -160,24 +137,13 @@ fn work_field<S: Space>(cpu: &mut Processor, space: &mut S, op: Operation) -> Re
     ensures all { effect result cpu.new (S.cells space.new) ≡ field_by op cpu.old (S.cells space.old) }
     ensures kept { S.frame space.new ≡ S.frame space.old }
 {
-    let mut bank = cpu.bank();
-    let width = width_of(bank.c);
-    match run_field(op, &mut bank, space) {
-        Ok(()) => {
-            cpu.set_bank(bank);
-            let course = Course {
-                taken: false,
-                elements: width as u16,
-                matched: false,
-                unmarked: false,
-            };
-            Ok(Carried { course, trap: None })
-        }
-        Err(fault) => {
-            cpu.set_bank(bank);
-            Err(fault)
-        }
-    }
+    let bank = cpu.bank_mut();
+    let elements = width_of(bank.c) as u16;
+    run_field(op, bank, space)?;
+    Ok(Carried::on(Course {
+        elements,
+        ..Course::default()
+    }))
 }
 
 // The effect of an instruction. P is after it.
@@ -192,9 +158,9 @@ pub(crate) fn execute<S: Space>(
 {
     let bank = cpu.bank();
     match i {
-        Instruction::Halt => Ok(ending(Trap::Halt)),
-        Instruction::CallSystem => Ok(ending(Trap::SystemCall)),
-        Instruction::Break => Ok(ending(Trap::Breakpoint)),
+        Instruction::Halt => Ok(Carried::ending(Trap::Halt)),
+        Instruction::CallSystem => Ok(Carried::ending(Trap::SystemCall)),
+        Instruction::Break => Ok(Carried::ending(Trap::Breakpoint)),
         Instruction::LoadImmediate(r) => {
             load(cpu, r, (operand % 256) as u8);
             Ok(plainly())
@@ -225,33 +191,27 @@ pub(crate) fn execute<S: Space>(
             cpu.p = operand;
             Ok(plainly())
         }
-        Instruction::JumpIf(flag, wanted) => {
-            if bank.flags.get(flag) == wanted {
-                cpu.p = operand;
-                return Ok(taking());
-            }
-            Ok(plainly())
+        Instruction::JumpIf(flag, wanted) if bank.flags.get(flag) == wanted => {
+            cpu.p = operand;
+            Ok(taking())
         }
         Instruction::Call => {
             call_to(cpu, operand);
             Ok(plainly())
         }
-        Instruction::CallIf(flag, wanted) => {
-            if bank.flags.get(flag) == wanted {
-                call_to(cpu, operand);
-                return Ok(taking());
-            }
-            Ok(plainly())
+        Instruction::CallIf(flag, wanted) if bank.flags.get(flag) == wanted => {
+            call_to(cpu, operand);
+            Ok(taking())
         }
         Instruction::Return => {
             return_back(cpu);
             Ok(plainly())
         }
-        Instruction::ReturnIf(flag, wanted) => {
-            if bank.flags.get(flag) == wanted {
-                return_back(cpu);
-                return Ok(taking());
-            }
+        Instruction::ReturnIf(flag, wanted) if bank.flags.get(flag) == wanted => {
+            return_back(cpu);
+            Ok(taking())
+        }
+        Instruction::JumpIf(_, _) | Instruction::CallIf(_, _) | Instruction::ReturnIf(_, _) => {
             Ok(plainly())
         }
         Instruction::Push(pair) => {

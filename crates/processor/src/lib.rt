@@ -1,4 +1,4 @@
-// The processor: one step over any space.
+// The processor: one step over any space. As in the block instructions, the state and the space stay two parameters.
 #![tactic(auto)]
 
 ghost use Rattle.std.specs.Prelude.{◌≡◌};

@@ -1,5 +1,5 @@
 -- A job's answers are a function of its record, its space and the calls that name it.
-use Rattle.std.proofs.Common.{◌≡◌, ℕ, Bool, true, false, cond, not, ◌&&◌, eqb, List, [], ◌∷◌, Ok, Err, sym, refl, ap, ◌∙◌, subst, arith, eqb-true}
+use Rattle.std.proofs.Common.{◌≡◌, ℕ, Bool, true, false, cond, not, ◌&&◌, eqb, List, [], ◌∷◌, Ok, Err, sym, refl, ap, ◌∙◌, subst, eqb-true}
 use borrow.Author.Tests.{eqb-false, not-true}
 use Rattle.refusal.specs.declared.Ground.TheVariants.{AlreadyOpen}
 use Rattle.refusal.specs.declared.Refusal.{Refusal}
@@ -22,6 +22,7 @@ use Rattle.protection.specs.Protection.{SameOpening, SameJob, MadeByOwn, all_cal
 use Rattle.protection.proofs.Asides.{shown_tells, begins}
 use Rattle.protection.proofs.Lawful.{Law, act_law}
 use Rattle.protection.proofs.Invariant.{Inv, inv_does, inv_new, inv_after, Leaves, call_leaves, open_all}
+use Rattle.model.proofs.Answers.{refused_done}
 
 -- What a call does to its job once that is open: an opening is refused then.
 abbrev refused_opening : ℕ → Judgement
@@ -187,9 +188,6 @@ left_solo j (c ∷ cs) w I o q = go (eqb (names c) j) refl (left_solo j cs) q
         ∙ ap (solo_left (calls_to j cs) (w.jobs j)) l.space
 
 -- What an accepted opening leaves.
-refused_done : {A : Type 0} (e : Refusal) → refused e ≡ done → A
-refused_done e p = absurd (let z : ◌≡◌ {A = ℕ} 0 1 = cc in omega arith)
-
 open_done : (j : ℕ) (t : Table) (start : ℕ) (w : World) → (does (opens j t start) w).answer ≡ done → ((does (opens j t start) w).world ≡ (opened j t start w).world) × Apart t
 open_done j t start w =
     open_all (λ d. d.answer ≡ done → (d.world ≡ (opened j t start w).world) × Apart t) j t start w (λ o q. (refl, o.once)) (λ e q. refused_done e q)

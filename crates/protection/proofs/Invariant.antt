@@ -1,7 +1,7 @@
 -- What a list of calls on a new engine keeps: no table names a page twice, a page that two jobs hold takes no writes, and only the eight jobs hold any.
 use Rattle.std.proofs.Common.{◌≡◌, ℕ, zero, suc, ◌<◌, ◌≤◌, Bool, true, false, cond, not, ◌&&◌, ◌||◌, eqb, ltb, ◌≢◌, List, [], ◌∷◌, get_or, replicate, is_some, Ok, Err, sym, refl, ap, ◌∙◌, subst, arith, ne_eqb, eqb-true}
 use borrow.Author.Tests.{eqb-false}
-use Rattle.std.proofs.lemmas.Bool.{ltb-false}
+use Rattle.std.proofs.lemmas.Bool.{ltb-false, and_from}
 use Rattle.refusal.specs.declared.Ground.TheVariants.{AlreadyOpen, ReservedBits, PageNamedTwice, PageNotWritable, PageHeld}
 use Rattle.refusal.specs.declared.Refusal.{Refusal}
 use Rattle.refusal.specs.Judging.{Judgement, when, at, first_from}
@@ -11,7 +11,7 @@ use Rattle.space.specs.Cells.{Cells}
 use Rattle.table.specs.Tables.{Apart, entry_of, access_in}
 use Rattle.pages.specs.Held.{Table, page_of, shown, holds, back}
 use Rattle.pages.specs.Entries.{reserved_at, again_at, fixed_at}
-use Rattle.pages.proofs.Truths.{clash, both, not_so, by_test}
+use Rattle.pages.proofs.Truths.{clash, not_so, by_test}
 use Rattle.pages.proofs.Spaces.{access_low, holds_at}
 use Rattle.model.specs.declared.job.Job.{Job}
 use Rattle.model.specs.Jobs.{closed_job, opened_job, is_open}
@@ -134,9 +134,9 @@ free_aside j t w I o k ne i l a b e =
     not_so (w.mem.takes (page_of t i)) (λ q.
     let held : held_by 8 w.jobs j (page_of t i) ≡ true =
     any_at 8 (λ n. not (eqb n j) && holds (w.jobs n).table (page_of t i)) k (I.low k l b)
-    (both (not (eqb k j)) (holds (w.jobs k).table (page_of t i)) (ap not (ne_eqb k j ne)) (ap (holds (w.jobs k).table) e ∙ holds_at (w.jobs k).table l b)) in
+    (and_from (not (eqb k j)) (holds (w.jobs k).table (page_of t i)) (ap not (ne_eqb k j ne)) (ap (holds (w.jobs k).table) e ∙ holds_at (w.jobs k).table l b)) in
     clash (held_at w.jobs w.mem.takes j t i)
-    (both (access_in (entry_of t i)) (w.mem.takes (page_of t i) && held_by 8 w.jobs j (page_of t i)) a (both (w.mem.takes (page_of t i)) (held_by 8 w.jobs j (page_of t i)) q held))
+    (and_from (access_in (entry_of t i)) (w.mem.takes (page_of t i) && held_by 8 w.jobs j (page_of t i)) a (and_from (w.mem.takes (page_of t i)) (held_by 8 w.jobs j (page_of t i)) q held))
     (o.free i (access_low t i a)))
 
 -- An opening is accepted, with what that says, or leaves the world.

@@ -3,18 +3,15 @@ use Rattle.std.proofs.Common.{◌≡◌, ℕ, Bool, true, false, not, ◌&&◌, 
 use Rattle.refusal.specs.declared.Ground.TheVariants.{NotOpen}
 use Rattle.refusal.specs.declared.Refusal.{Refusal}
 use Rattle.refusal.specs.Judging.{Judgement, when, also}
-use Rattle.stop.specs.declared.Trap.{Trap}
-use Rattle.stop.specs.declared.Trap.TheVariants.{Halt, SystemCall, Breakpoint}
-use Rattle.stop.specs.declared.Stop.{Stop}
-use Rattle.stop.specs.declared.Stop.TheVariants.{Limit, Trapped, Faulted}
 use Rattle.space.specs.Cells.{Cells}
 use Rattle.runs.specs.Runs.{run_of}
 use Rattle.pages.proofs.Truths.{clash}
 use Rattle.model.specs.declared.job.Job.{Job}
-use Rattle.model.specs.Jobs.{closed_job, is_open, status_after}
+use Rattle.model.specs.Jobs.{closed_job, is_open}
 use Rattle.model.specs.Calls.{Ask, loads, runs, replies, abandons, looks, states, closes, Answer, refused, accepted, closing, asks, ends}
 use Rattle.model.specs.Acts.{Left, says, no_such_job, not_open, judge_ask, effect_of, unless, act_of}
 use Rattle.refusal.proofs.Judgements.{err_ok, passed}
+use Rattle.model.proofs.Answers.{stop_open}
 
 -- `over` tells by the answer whether the act ended its job.
 pub record Law (over : Answer → Bool) (b : Job) (x : Left) : Type 0 where
@@ -34,17 +31,6 @@ found_open false p = err_ok _ p
 
 opened : (j : ℕ) (b : Job) (more : Judgement) → also (no_such_job j) (also (not_open b) more) ≡ Ok tt → is_open b.status ≡ true
 opened j b more p = found_open (is_open b.status) (passed (not_open b) more (passed (no_such_job j) (also (not_open b) more) p).1).0
-
--- A run leaves its job open.
-trap_open : (e : Trap) → is_open (status_after (Trapped e)) ≡ true
-trap_open Halt = refl
-trap_open SystemCall = refl
-trap_open Breakpoint = refl
-
-stop_open : (e : Stop) → is_open (status_after e) ≡ true
-stop_open Limit = refl
-stop_open (Trapped e) = trap_open e
-stop_open (Faulted e) = refl
 
 -- The effect of each call, once it is accepted.
 effect_law : (j : ℕ) (x : Ask) (b : Job) (s : Cells) → judge_ask j x b s ≡ Ok tt → Law (ends (asks j x)) b (effect_of j x b s)

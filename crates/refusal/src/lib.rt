@@ -12,39 +12,39 @@ use std::fmt;
 #[derive(Clone, Copy, PartialEq, Eq, Debug)]
 pub enum Ground {
     // 1: an image of more than 16,384 bytes, or a buffer of the wrong length
-    WrongLength,
+    WrongLength = 1,
     // 2: the first five bytes of an image are not D, P, J, 0, 1
-    NoImage,
+    NoImage = 2,
     // 3: the table, the starting address or a block of an image is incomplete
-    Incomplete,
+    Incomplete = 3,
     // 4: the job number is above 7
-    NoSuchJob,
+    NoSuchJob = 4,
     // 5: an opening of an open job
-    AlreadyOpen,
+    AlreadyOpen = 5,
     // 6: another call on a job that is not open
-    NotOpen,
+    NotOpen = 6,
     // 7: an entry of the table has bit 0 or 1 set
-    ReservedBits,
+    ReservedBits = 7,
     // 8: an entry names a page that a lower one names
-    PageNamedTwice,
+    PageNamedTwice = 8,
     // 9: an entry that allows writing names a page that takes none
-    PageNotWritable,
+    PageNotWritable = 9,
     // 10: an entry names a page that takes writes and that another open job holds
-    PageHeld,
+    PageHeld = 10,
     // 11: the job is waiting for a reply
-    JobWaiting,
+    JobWaiting = 11,
     // 12: the job has ended
-    JobEnded,
+    JobEnded = 12,
     // 13: the steps so far and the limit pass 4,294,967,295
-    TooManySteps,
+    TooManySteps = 13,
     // 14: the job is not waiting, or not for this receipt
-    NotOwed,
+    NotOwed = 14,
     // 15: past the end of the addresses or of a page, or a page or sector number above 15
-    OutOfRange,
+    OutOfRange = 15,
     // 16: a byte in a sector without access
-    NoAccess,
+    NoAccess = 16,
     // 17: a byte in a page that takes no writes
-    NoWrites,
+    NoWrites = 17,
 }
 
 // A ground and its place: a file offset, a sector, an address or an offset, by the ground; else 0.
@@ -58,25 +58,7 @@ impl Ground {
     pub fn number(self) -> u8
         ensures { result ≡ number_of self }
     {
-        match self {
-            Ground::WrongLength => 1,
-            Ground::NoImage => 2,
-            Ground::Incomplete => 3,
-            Ground::NoSuchJob => 4,
-            Ground::AlreadyOpen => 5,
-            Ground::NotOpen => 6,
-            Ground::ReservedBits => 7,
-            Ground::PageNamedTwice => 8,
-            Ground::PageNotWritable => 9,
-            Ground::PageHeld => 10,
-            Ground::JobWaiting => 11,
-            Ground::JobEnded => 12,
-            Ground::TooManySteps => 13,
-            Ground::NotOwed => 14,
-            Ground::OutOfRange => 15,
-            Ground::NoAccess => 16,
-            Ground::NoWrites => 17,
-        }
+        self as u8
     }
 
     // A refusal on this ground.

@@ -31,7 +31,7 @@ pub enum Flag {
     Parity,
 }
 
-#[derive(Clone, Copy)]
+#[derive(Clone, Copy, Default)]
 pub struct Flags {
     pub carry: bool,
     pub zero: bool,
@@ -39,7 +39,7 @@ pub struct Flags {
     pub parity: bool,
 }
 
-#[derive(Clone, Copy)]
+#[derive(Clone, Copy, Default)]
 pub struct Bank {
     pub a: u8,
     pub b: u8,
@@ -111,8 +111,7 @@ impl Bank {
     pub fn put_pair(&mut self, p: Pair, v: u16)
         ensures { self.new ≡ with_pair self.old p v }
     {
-        let high = (v / 256) as u8;
-        let low = (v % 256) as u8;
+        let [high, low] = v.to_be_bytes();
         match p {
             Pair::XA => {
                 self.x = high;

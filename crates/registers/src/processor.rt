@@ -1,15 +1,30 @@
 // The state of the processor.
-ghost use Rattle.std.specs.Prelude.{◌≡◌};
-ghost use Rattle.registers.specs.Processors.{bank_of, with_bank, reset_at};
+ghost use Rattle.std.specs.Prelude.{◌≡◌, Some};
+ghost use Rattle.registers.specs.Processors.{bank_of, reset_at};
+ghost use Rattle.std.specs.Borrow.{sem};
+ghost use Rattle.registers.specs.Words.{word_of};
+ghost use Rattle.registers.specs.Lending.{LendsBank};
 
-use super::bank::{Bank, Flags};
+use super::bank::Bank;
 use super::stack::Stack;
+use std::fmt;
 
 // Which bank is in use.
 #[derive(Clone, Copy, PartialEq, Eq)]
 pub enum Mode {
     Alpha,
     Beta,
+}
+
+impl fmt::Display for Mode {
+    ghost output = { λ m. Some (word_of m) };
+
+    fn fmt<W: fmt::Write>(&self, f: &mut fmt::Formatter<W>) -> fmt::Result {
+        f.write_str(match self {
+            Mode::Alpha => "alpha",
+            Mode::Beta => "beta",
+        })
+    }
 }
 
 #[derive(Clone, Copy)]
@@ -27,23 +42,7 @@ impl Processor {
     pub fn reset(start: u16) -> Processor
         ensures { result ≡ reset_at start }
     {
-        let flags = Flags {
-            carry: false,
-            zero: false,
-            sign: false,
-            parity: false,
-        };
-        let bank = Bank {
-            a: 0,
-            b: 0,
-            c: 0,
-            d: 0,
-            e: 0,
-            h: 0,
-            l: 0,
-            x: 0,
-            flags,
-        };
+        let bank = Bank::default();
         Processor {
             alpha: bank,
             beta: bank,
@@ -64,13 +63,14 @@ impl Processor {
         }
     }
 
-    // Puts a bank in the place of the one in use.
-    pub fn set_bank(&mut self, k: Bank)
-        ensures { self.new ≡ with_bank self.old k }
+    // The bank in use, to be changed.
+    pub fn bank_mut(&mut self) -> &mut Bank
+        ensures* lends { sem 𝓛 (LendsBank self.entry result) }
+        ensures value { result.now ≡ bank_of self.old }
     {
         match self.mode {
-            Mode::Alpha => self.alpha = k,
-            Mode::Beta => self.beta = k,
+            Mode::Alpha => &mut self.alpha,
+            Mode::Beta => &mut self.beta,
         }
     }
 }

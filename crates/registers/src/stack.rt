@@ -1,3 +1,4 @@
+// The stack. It wraps and has no length: `top` is the machine's own, and so is the size.
 ghost use Rattle.std.specs.Prelude.{ℕ, ◌<◌};
 
 // The pushdown stack: sixteen entries, and the place of the next to fill.

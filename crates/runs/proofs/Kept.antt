@@ -162,10 +162,6 @@ pub record Quiet (s u : Cells) (a : ℕ) : Type 0 where
   pub writable : (u a).writable ≡ (s a).writable
   pub byte : ((s a).access && (s a).writable) ≡ false → (u a).byte ≡ (s a).byte
 
-both_false : (z y : Bool) → y ≡ false → (z && y) ≡ false
-both_false true y e = e
-both_false false y e = refl
-
 missed : (k a : ℕ) (f : ℕ → Bool) → f k ≡ false → (eqb k a && f a) ≡ false
 missed k a f h = go (eqb k a) refl
   where

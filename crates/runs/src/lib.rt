@@ -10,7 +10,8 @@ use registers::processor::Processor;
 use space::Space;
 use stop::Stop;
 
-// What a run answers: the steps that counted, their nanoseconds, and why it stopped.
+// What a run answers: the steps that counted, their nanoseconds, and why it stopped. That the time fits is said by clauses: with a
+// ghost field, every definition that makes such a value would carry its proof.
 #[derive(Clone, Copy)]
 pub struct Ran {
     pub steps: u16,
@@ -24,16 +25,14 @@ fn run_steps<S: Space>(cpu: &mut Processor, space: &mut S, limit: u16) -> Ran
     ensures kept { S.frame space.new ≡ S.frame space.old }
     ensures bounded { result.time ≤ result.steps * 4294967295 }
 {
-    let mut steps = 0;
     let mut time: u64 = 0;
-    while steps < limit {
+    for steps in 0..limit {
         match step(cpu, space) {
             Ok(done) => {
-                steps += 1;
                 time += done.time as u64;
                 if let Some(trap) = done.trap {
                     return Ran {
-                        steps,
+                        steps: steps + 1,
                         time,
                         stop: Stop::Trapped(trap),
                     };
@@ -47,7 +46,7 @@ fn run_steps<S: Space>(cpu: &mut Processor, space: &mut S, limit: u16) -> Ran
         }
     }
     Ran {
-        steps,
+        steps: limit,
         time,
         stop: Stop::Limit,
     }

@@ -74,7 +74,6 @@ pub enum Question {
 
 #[derive(Drop)]
 pub enum Command {
-    Nothing,
     Setup(Setup),
     Call(Call),
     Question(Question),

@@ -2,9 +2,10 @@
 ghost use Rattle.std.specs.Prelude.{ℕ, ◌≤◌, IfOk};
 
 use crate::faults::Fault;
+use model::job::Registers;
 use std::alloc::Global;
 use words::numbers::number;
-use words::split_word;
+use words::{Split, split_word};
 
 // The most bytes that a line may name: far more than memory has.
 const MOST_BYTES: u32 = 1048576;
@@ -14,64 +15,47 @@ pub struct Fields<'a> {
     rest: &'a [u8],
 }
 
-// A word of bytes: one, or so many times the same.
-#[derive(Clone, Copy)]
-struct Repeated {
-    times: u32,
-    value: u8,
-}
-
 // A number in range.
 fn in_range(word: &[u8], most: u32) -> Result<u32, Fault>
     ensures { IfOk result (λ n. n ≤ most) }
 {
-    match number(word, most) {
-        Some(value) if value <= most => Ok(value),
-        _ => Err(Fault::OutOfRange),
-    }
+    number(word, most).ok_or(Fault::OutOfRange)
 }
 
 fn byte_in(word: &[u8]) -> Result<u8, Fault> {
     Ok(in_range(word, 255)? as u8)
 }
 
-// A word of bytes: `V`, or `N*V` for N times V.
-fn repeated_in(word: &[u8]) -> Result<Repeated, Fault> {
-    for (i, b) in word.iter().enumerate() {
-        if *b == b'*' {
-            let (times, value) = word.split_at(i);
+// So many times the same byte.
+#[derive(Clone, Copy)]
+struct Repeated {
+    times: u32,
+    value: u8,
+}
+
+impl Repeated {
+    // A word of bytes: `V`, or `N*V` for N times V.
+    fn of(word: &[u8]) -> Result<Repeated, Fault> {
+        let Some(star) = word.iter().position(|b| *b == b'*') else {
             return Ok(Repeated {
-                times: in_range(times, MOST_BYTES)?,
-                value: byte_in(&value[1..])?,
+                times: 1,
+                value: byte_in(word)?,
             });
+        };
+        Ok(Repeated {
+            times: in_range(&word[..star], MOST_BYTES)?,
+            value: byte_in(&word[star + 1..])?,
+        })
+    }
+
+    fn append_to(self, bytes: &mut Vec<u8>) -> Result<(), Fault> {
+        let length = bytes.len() + self.times as usize;
+        if length > MOST_BYTES as usize {
+            return Err(Fault::TooManyBytes);
         }
+        bytes.resize(length, self.value)?;
+        Ok(())
     }
-    Ok(Repeated {
-        times: 1,
-        value: byte_in(word)?,
-    })
-}
-
-// Appends the same byte so many times.
-fn append(bytes: &mut Vec<u8>, repeated: Repeated) -> Result<(), Fault> {
-    if bytes.len() + repeated.times as usize > MOST_BYTES as usize {
-        return Err(Fault::TooManyBytes);
-    }
-    for _ in 0..repeated.times {
-        bytes.push(repeated.value)?;
-    }
-    Ok(())
-}
-
-// The bytes that are left to the end of the line.
-fn bytes_in(line: &[u8], heap: Global) -> Result<Vec<u8>, Fault> {
-    let mut bytes = Vec::new(heap);
-    let mut rest = line;
-    while let Some(split) = split_word(rest) {
-        append(&mut bytes, repeated_in(split.word)?)?;
-        rest = split.rest;
-    }
-    Ok(bytes)
 }
 
 impl<'a> Fields<'a> {
@@ -81,13 +65,9 @@ impl<'a> Fields<'a> {
 
     // The next word.
     fn word(&mut self) -> Result<&'a [u8], Fault> {
-        match split_word(self.rest) {
-            Some(split) => {
-                self.rest = split.rest;
-                Ok(split.word)
-            }
-            None => Err(Fault::MissingNumber),
-        }
+        let Split { word, rest } = split_word(self.rest).ok_or(Fault::MissingNumber)?;
+        self.rest = rest;
+        Ok(word)
     }
 
     pub fn number(&mut self, most: u32) -> Result<u32, Fault>
@@ -105,17 +85,41 @@ impl<'a> Fields<'a> {
         Ok(self.number(65535)? as u16)
     }
 
-    // The bytes to the end of the line.
-    pub fn bytes(self, heap: Global) -> Result<Vec<u8>, Fault> {
-        bytes_in(self.rest, heap)
+    pub(crate) fn table(&mut self) -> Result<[u8; 15], Fault> {
+        let mut table = [0; 15];
+        for entry in table.iter_mut() {
+            *entry = self.byte()?;
+        }
+        Ok(table)
+    }
+
+    pub(crate) fn registers(&mut self) -> Result<Registers, Fault> {
+        Ok(Registers {
+            a: self.byte()?,
+            b: self.byte()?,
+            c: self.byte()?,
+            d: self.byte()?,
+            e: self.byte()?,
+            h: self.byte()?,
+            l: self.byte()?,
+            x: self.byte()?,
+        })
+    }
+
+    // The bytes to the end of the line. The loop counts nothing: what is left is a slice.
+    pub fn bytes(&mut self, heap: Global) -> Result<Vec<u8>, Fault> {
+        let mut bytes = Vec::new(heap);
+        while let Some(Split { word, rest }) = split_word(self.rest) {
+            Repeated::of(word)?.append_to(&mut bytes)?;
+            self.rest = rest;
+        }
+        Ok(bytes)
     }
 
     // A buffer of so many zeros.
     pub fn buffer(&mut self, heap: Global) -> Result<Vec<u8>, Fault> {
         let times = self.number(MOST_BYTES)?;
-        let mut bytes = Vec::new(heap);
-        append(&mut bytes, Repeated { times, value: 0 })?;
-        Ok(bytes)
+        Ok(vec![in heap; 0; times as usize]?)
     }
 
     // No word is left.

@@ -9,7 +9,7 @@ use stop::Fault;
 pub trait Space {
     ghost cells: { Self → ℕ → Cell };
 
-    // all that a write leaves as it is
+    // All that a write leaves as it is. Whatever writes to a space says again that this is kept: it is said of a change, so no type can hold it.
     ghost frame: { Self → Frame };
 
     fn read(&self, at: u16) -> Result<u8, Fault>

@@ -7,18 +7,18 @@ ghost use Rattle.stop.specs.Stops.{number_of, trap_number, fault_number};
 // An instruction that ends the run once it is carried out: it counts, and P is after it.
 #[derive(Clone, Copy, PartialEq, Eq, Debug)]
 pub enum Trap {
-    Halt,
-    SystemCall,
-    Breakpoint,
+    Halt = 2,
+    SystemCall = 3,
+    Breakpoint = 4,
 }
 
 // What keeps an instruction from being carried out: it does not count, and P is at its first byte.
 #[derive(Clone, Copy, PartialEq, Eq, Debug)]
 pub enum Fault {
-    Privileged,
-    NoAccess,
-    NoWriting,
-    NotCarried,
+    Privileged = 5,
+    NoAccess = 6,
+    NoWriting = 7,
+    NotCarried = 8,
 }
 
 #[derive(Clone, Copy, PartialEq, Eq, Debug)]
@@ -32,11 +32,7 @@ impl Trap {
     pub fn number(self) -> u8
         ensures { result ≡ trap_number self }
     {
-        match self {
-            Trap::Halt => 2,
-            Trap::SystemCall => 3,
-            Trap::Breakpoint => 4,
-        }
+        self as u8
     }
 }
 
@@ -44,12 +40,7 @@ impl Fault {
     pub fn number(self) -> u8
         ensures { result ≡ fault_number self }
     {
-        match self {
-            Fault::Privileged => 5,
-            Fault::NoAccess => 6,
-            Fault::NoWriting => 7,
-            Fault::NotCarried => 8,
-        }
+        self as u8
     }
 }
 

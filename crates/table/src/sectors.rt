@@ -1,3 +1,4 @@
+// A table of which it is known that no page is named twice.
 ghost use Rattle.std.specs.Prelude.{ℕ};
 ghost use Rattle.table.specs.Tables.{Apart};
 

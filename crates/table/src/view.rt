@@ -47,9 +47,8 @@ impl<'a, M: Memory> Space for View<'a, M> {
         if !entry.writing() {
             return Err(Fault::NoWriting);
         }
-        match self.memory.write(entry.page().address(at), b) {
-            Ok(()) => Ok(()),
-            Err(_) => Err(Fault::NoWriting),
-        }
+        self.memory
+            .write(entry.page().address(at), b)
+            .map_err(|_| Fault::NoWriting)
     }
 }

@@ -9,7 +9,7 @@ use decode::instruction::{Instruction, Source};
 use registers::bank::{Pair, Register};
 
 // What happened in an instruction that its time depends on.
-#[derive(Clone, Copy)]
+#[derive(Clone, Copy, Default)]
 pub struct Course {
     // a conditional jump, call or return was taken
     pub taken: bool,

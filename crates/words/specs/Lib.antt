@@ -1,4 +1,3 @@
 pub mod Kinds
-pub mod Words
 pub mod Splits
 pub mod Numbers

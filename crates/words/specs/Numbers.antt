@@ -6,6 +6,10 @@ use Rattle.words.specs.Kinds.{digit_byte}
 abbrev pub longer : ℕ → ℕ → ℕ
 longer v b = v * 10 + (b - 48)
 
+-- That number, if `b` is a digit and the number at most `most`.
+abbrev pub lengthened : ℕ → ℕ → ℕ → Option ℕ
+lengthened most v b = cond (digit_byte b && nat_le (longer v b) most) (Some (longer v b)) None
+
 -- The number that digits spell behind those of `v`, if they are digits all and it is at most `most`.
 unfoldable pub spelled : ℕ → ℕ → List ℕ → Option ℕ
 spelled most v [] = Some v

@@ -3,18 +3,10 @@
 
 pub mod numbers;
 
-ghost use Rattle.std.specs.Prelude.{◌≡◌, ◌≤◌, length, take};
-ghost use Rattle.words.specs.Words.{kind_of, leading};
+ghost use Rattle.std.specs.Prelude.{◌≡◌, ◌≤◌, length, not};
+ghost use Rattle.std.specs.List.{prefix_len, take_while};
 ghost use Rattle.words.specs.Splits.{Parted};
 ghost use Rattle.words.specs.Kinds.{blank_byte, comment_byte};
-
-// What parts a line: the bytes before a comment, the blanks, the bytes of a word.
-#[derive(Clone, Copy)]
-pub enum Kind {
-    Code,
-    Blank,
-    Word,
-}
 
 // A word, and what stands behind it.
 #[derive(Clone, Copy)]
@@ -26,7 +18,7 @@ pub struct Split<'a> {
 fn is_blank(b: u8) -> bool
     ensures { result ≡ blank_byte b }
 {
-    b == b' ' || b == b'\t' || b == b'\r' || b == b'\n'
+    matches!(b, b' ' | b'\t' | b'\r' | b'\n')
 }
 
 fn is_comment(b: u8) -> bool
@@ -35,49 +27,46 @@ fn is_comment(b: u8) -> bool
     b == b'#'
 }
 
-impl Kind {
-    // Whether a byte is of this kind.
-    fn has(self, b: u8) -> bool
-        ensures { result ≡ kind_of self b }
-    {
-        match self {
-            Kind::Code => !is_comment(b),
-            Kind::Blank => is_blank(b),
-            Kind::Word => !is_blank(b),
-        }
-    }
+// How many bytes stand before a comment. This and the next two are chains of their own and not one function that is given the test: of such
+// a one the contract would have to say what the test answers.
+fn code_length(line: &[u8]) -> usize
+    ensures value { result ≡ prefix_len (λ b. not (comment_byte b)) line.now }
+    ensures within { result ≤ length line.now }
+{
+    line.iter().take_while(|b| !is_comment(**b)).count()
+}
 
-    // How many bytes at the front are of this kind.
-    fn leading_in(self, line: &[u8]) -> usize
-        ensures value { result ≡ leading self line.now }
-        ensures within { result ≤ length line.now }
-    {
-        let mut count = 0;
-        for b in line {
-            if !self.has(*b) {
-                return count;
-            }
-            count += 1;
-        }
-        count
-    }
+// How many blanks stand at the front.
+fn gap_length(line: &[u8]) -> usize
+    ensures value { result ≡ prefix_len blank_byte line.now }
+    ensures within { result ≤ length line.now }
+{
+    line.iter().take_while(|b| is_blank(**b)).count()
+}
+
+// How many bytes stand before a blank.
+fn word_length(line: &[u8]) -> usize
+    ensures value { result ≡ prefix_len (λ b. not (blank_byte b)) line.now }
+    ensures within { result ≤ length line.now }
+{
+    line.iter().take_while(|b| !is_blank(**b)).count()
 }
 
 // The line without its comment.
 pub fn uncommented<'a>(line: &'a [u8]) -> &'a [u8]
-    ensures { result.now ≡ take (leading Kind.Code line.now) line.now }
+    ensures { result.now ≡ take_while (λ b. not (comment_byte b)) line.now }
 {
-    let end = Kind::Code.leading_in(line);
-    &line[0..end]
+    let end = code_length(line);
+    &line[..end]
 }
 
 // The first word of a line, and the rest of the line behind it.
 pub fn split_word<'a>(line: &'a [u8]) -> Option<Split<'a>>
     ensures { Parted line.now result }
 {
-    let gap = Kind::Blank.leading_in(line);
+    let gap = gap_length(line);
     let (_, begun) = line.split_at(gap);
-    let end = Kind::Word.leading_in(begun);
+    let end = word_length(begun);
     if end == 0 {
         return None;
     }

@@ -1,34 +1,33 @@
 // Decimal numbers of a stated range.
-ghost use Rattle.std.specs.Prelude.{◌≡◌};
-ghost use Rattle.words.specs.Kinds.{digit_byte};
-ghost use Rattle.words.specs.Numbers.{spelled, number_of};
+ghost use Rattle.std.specs.Prelude.{◌≡◌, ◌≤◌, IfSome};
+ghost use Rattle.words.specs.Numbers.{lengthened, spelled, number_of};
 
-fn is_digit(b: u8) -> bool
-    ensures { result ≡ digit_byte b }
+// The number with one digit more at its end, if it is a digit and the number at most `most`.
+fn longer(value: u32, b: u8, most: u32) -> Option<u32>
+    ensures { result ≡ lengthened most value b }
 {
-    48 <= b && b <= 57
+    if !b.is_ascii_digit() {
+        return None;
+    }
+    let longer = u64::from(value) * 10 + u64::from(b - b'0');
+    if longer > u64::from(most) {
+        return None;
+    }
+    Some(longer as u32)
 }
 
 // The number that digits spell, if they are digits all and it is at most `most`.
 fn spell(word: &[u8], most: u32) -> Option<u32>
-    ensures { result ≡ spelled most 0 word.now }
+    ensures value { result ≡ spelled most 0 word.now }
+    ensures within { IfSome result (λ n. n ≤ most) }
 {
-    let mut value: u64 = 0;
-    for b in word {
-        if !is_digit(*b) {
-            return None;
-        }
-        value = value * 10 + (*b - 48) as u64;
-        if value > most as u64 {
-            return None;
-        }
-    }
-    Some(value as u32)
+    word.iter().try_fold(0, |value, b| longer(value, *b, most))
 }
 
 // The number of a word of one digit or more, if it is at most `most`.
 pub fn number(word: &[u8], most: u32) -> Option<u32>
-    ensures { result ≡ number_of most word.now }
+    ensures value { result ≡ number_of most word.now }
+    ensures within { IfSome result (λ n. n ≤ most) }
 {
     if word.is_empty() {
         return None;

@@ -4,12 +4,13 @@ use Rattle.model.specs.Calls.{Owed}
 use Rattle.engine.specs.declared.receipt.Receipt.{Receipt}
 use Rattle.engine.specs.Answers.{owed_of}
 use Rattle.launch.specs.Launches.{Acceptable}
-use Rattle.launch.proofs.Ran.{no_mem, abandon_kept}
+use Rattle.launch.proofs.Ran.{abandon_ok}
 use Rattle.launch.proofs.abandon_owed.Goals as goal
+use Rattle.model.proofs.Answers.{no_mem}
 
-pub unreachable-requires : goal.unreachable-requires
-unreachable-requires c =
+pub unwrap-requires : goal.unwrap-requires
+unwrap-requires c =
     let o : Owed = record { job = c.in-Some.owed.job; number = c.in-Some.owed.number } in
-    abandon_kept (world_of c.args.engine.now.jobs no_mem) _ o c.in-Err.field-0.refusal
+    abandon_ok (world_of c.args.engine.now.jobs no_mem) _ o c.abandon.result
     (subst (λ (r : Option Receipt). Acceptable (owed_of r) (jobs_of c.args.engine.now.jobs)) c.in-Some.is c.requires)
-    (c.in-Err.ensures.world no_mem)
+    (c.abandon.ensures.world no_mem)

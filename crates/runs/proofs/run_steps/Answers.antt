@@ -12,7 +12,7 @@ returns-in-Err g c =
           (stepped (Err c.in-Err.fault) c.step.new.cpu (g.S.Space.cells c.step.new.space)) (omega arith) c.in-Err.ensures.all
           ∙ c.loop-steps.invariant.0;
       kept = c.in-Err.ensures.kept ∙ c.loop-steps.invariant.1;
-      bounded = c.loop-steps.invariant.3;
+      bounded = c.loop-steps.invariant.2;
     }
 
 pub returns-in-Some : goal.returns-in-Some
@@ -36,6 +36,5 @@ loop-steps-preserved g c = (
       (stepped (Ok c.in-Ok.done) c.step.new.cpu (g.S.Space.cells c.step.new.space)) (omega arith) c.in-Ok.ensures.all
       ∙ c.loop-steps.invariant.0,
   c.in-Ok.ensures.kept ∙ c.loop-steps.invariant.1,
-  omega arith,
   omega arith,
 )

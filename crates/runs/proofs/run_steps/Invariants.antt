@@ -8,8 +8,4 @@ invariant-loop-steps g l =
     (run_of (l.limit - l.steps) l.steps l.time l.cpu (g.S.Space.cells l.space)
     ≡ run_of l.limit 0 0 l.initial.cpu (g.S.Space.cells l.initial.space))
     × (g.S.Space.frame l.space ≡ g.S.Space.frame l.initial.space)
-    × (l.steps ≤ l.limit)
     × (l.time ≤ l.steps * 4294967295)
-
-abbrev pub decreases-loop-steps : goal.decreases-loop-steps
-decreases-loop-steps g l = l.limit - l.steps

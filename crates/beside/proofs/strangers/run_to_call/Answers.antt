@@ -12,6 +12,6 @@ fits : (x : Option Receipt) (w v : World) (r : Ran) → does (asks 0 (runs 9)) w
 fits None w v r p = tt
 fits (Some x) w v r p = run_accepts 0 9 w v r x p
 
-pub returns-in-Ok : goal.returns-in-Ok
-returns-in-Ok g c =
-    fits _ (world_of c.args.engine.now.jobs (g.M.Memory.mem c.args.memory.now)) (world_of c.run.new.self.jobs (g.M.Memory.mem c.run.new.memory)) _ c.in-Ok.ensures
+pub returns : goal.returns
+returns g c =
+    fits _ (world_of c.args.engine.now.jobs (g.M.Memory.mem c.args.memory.now)) (world_of c.run.new.self.jobs (g.M.Memory.mem c.run.new.memory)) _ c.in_ok-receipt.ensures

@@ -1,12 +1,9 @@
-use Rattle.std.proofs.Common.{◌≡◌}
-use Rattle.block.specs.Fields.{field_from}
+use Rattle.std.proofs.Common.{◌≡◌, ◌-◌}
+use Rattle.block.specs.Fields.{field_from, field_of}
 use Rattle.block.proofs.fields.run_field.Given as goal
 
-abbrev pub invariant-loop-left : goal.invariant-loop-left
-invariant-loop-left g l =
-    (field_from l.op l.flags l.left l.bank (g.S.Space.cells l.space)
-    ≡ field_from l.op l.flags l.initial.left l.initial.bank (g.S.Space.cells l.initial.space))
-    × (g.S.Space.frame l.space ≡ g.S.Space.frame l.initial.space)
-
-abbrev pub decreases-loop-left : goal.decreases-loop-left
-decreases-loop-left g l = l.left
+-- What is left to do from here is what was to do from the start.
+abbrev pub invariant-loop : goal.invariant-loop
+invariant-loop g l =
+    (field_from l.op l.flags (l.end - l.counter) l.bank (g.S.Space.cells l.space) ≡ field_of l.fn.op l.fn.bank (g.S.Space.cells l.fn.space))
+    × (g.S.Space.frame l.space ≡ g.S.Space.frame l.fn.space)

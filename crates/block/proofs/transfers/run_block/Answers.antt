@@ -1,35 +1,31 @@
-use Rattle.std.proofs.Common.{◌≡◌, ◌+◌, ◌%◌, ◌∙◌, arith, rules}
-use Rattle.block.specs.Transfers.{more_of}
-use Rattle.block.proofs.Turns.{stopped, matched, unmatched, same_c}
+use Rattle.std.proofs.Common.{ℕ, ◌+◌, ◌-◌, ◌∙◌, rules}
+use Rattle.block.proofs.Turns.{stopped, matched, unmatched}
 use Rattle.block.proofs.transfers.run_block.Goals as goal
 
-pub returns-in_err-sum : goal.returns-in_err-sum
-returns-in_err-sum g c =
+pub returns-in_err-sum-clause-all : goal.returns-in_err-sum-clause-all
+returns-in_err-sum-clause-all g c =
+    let left : ℕ = c.from-most.result + 1 - 1 - c.loop-before.before in
     let t =
-    stopped c.args.kind c.loop-sum.bank (g.S.Space.cells c.loop-sum.space) c.loop-sum.elements c.element.new.bank
-    (g.S.Space.cells c.element.new.space) (more_of c.loop-sum.bank) c.in_err-sum.field-0.0 c.in_err-sum.ensures.all
+    stopped c.args.kind c.loop-before.bank (g.S.Space.cells c.loop-before.space) c.loop-before.before c.element.new.bank
+    (g.S.Space.cells c.element.new.space) left c.in_err-sum.field-0.0 c.in_err-sum.ensures.all
+    ∙ c.loop-before.invariant.0.more c.loop-before-test.true
     in
     search rules
 
-pub returns-then-sum-eq256 : goal.returns-then-sum-eq256
-returns-then-sum-eq256 g c =
+pub returns-then-sum-eq256-clause-all : goal.returns-then-sum-eq256-clause-all
+returns-then-sum-eq256-clause-all g c =
+    let left : ℕ = c.from-most.result + 1 - 1 - c.loop-before.before in
     let t =
-    matched c.args.kind c.loop-sum.bank (g.S.Space.cells c.loop-sum.space) c.loop-sum.elements c.element.new.bank
-    (g.S.Space.cells c.element.new.space) (more_of c.loop-sum.bank) c.in_ok-sum.sum c.in_ok-sum.ensures.all
-    c.if-sum-eq256.true
+    matched c.args.kind c.loop-before.bank (g.S.Space.cells c.loop-before.space) c.loop-before.before c.element.new.bank
+    (g.S.Space.cells c.element.new.space) left c.in_ok-sum.sum c.in_ok-sum.ensures.all c.if-sum-eq256.true
+    ∙ c.loop-before.invariant.0.more c.loop-before-test.true
     in
     search rules
 
-pub loop-sum-preserved : goal.loop-sum-preserved
-loop-sum-preserved g c =
-    let kept : c.element.new.bank.c ≡ c.loop-sum.bank.c =
-    same_c c.args.kind c.loop-sum.bank (g.S.Space.cells c.loop-sum.space) c.element.new.bank
-    (g.S.Space.cells c.element.new.space) c.in_ok-sum.sum c.in_ok-sum.ensures.all
-    in (
-      unmatched c.args.kind c.loop-sum.bank (g.S.Space.cells c.loop-sum.space) c.loop-sum.elements c.element.new.bank
-          (g.S.Space.cells c.element.new.space) (((c.element.new.bank.c + 255) % 256 + 255) % 256) (more_of c.loop-sum.bank)
-          c.in_ok-sum.sum _ c.in_ok-sum.ensures.all c.if-sum-eq256.false (omega arith) c.loop-sum.invariant.0,
-      ◌∙◌ {a = g.S.Space.frame c.element.new.space} {b = g.S.Space.frame c.loop-sum.space} c.in_ok-sum.ensures.kept
-          c.loop-sum.invariant.1,
-      omega arith,
-    )
+pub loop-before-preserved : goal.loop-before-preserved
+loop-before-preserved g c = (
+  unmatched c.args.kind c.loop-before.bank (g.S.Space.cells c.loop-before.space) c.loop-before.before c.element.new.bank
+      (g.S.Space.cells c.element.new.space) (c.from-most.result + 1) c.in_ok-sum.sum _ c.loop-before-test.true c.in_ok-sum.ensures.all c.if-sum-eq256.false
+      (c.loop-before.invariant.0.more c.loop-before-test.true),
+  c.in_ok-sum.ensures.kept ∙ c.loop-before.invariant.1,
+)

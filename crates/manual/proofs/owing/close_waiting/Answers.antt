@@ -2,9 +2,9 @@ use Rattle.refusal.specs.declared.Ground.TheVariants.{JobWaiting}
 use Rattle.refusal.specs.Grounds.{refusal_of}
 use Rattle.model.specs.Calls.{closes}
 use Rattle.model.specs.Worlds.{world_of, jobs_of}
-use Rattle.launch.proofs.Ran.{no_mem}
 use Rattle.manual.proofs.Waits.{same_jobs, closing_judged}
 use Rattle.manual.proofs.owing.close_waiting.Goals as goal
+use Rattle.model.proofs.Answers.{no_mem}
 
 pub returns : goal.returns
 returns c =

@@ -8,4 +8,4 @@ use Rattle.manual.proofs.owing.run_waiting.Goals as goal
 pub returns : goal.returns
 returns g c =
     same_jobs (runs 9) (world_of c.args.engine.now.jobs (g.M.Memory.mem c.args.memory.now)) _ (refusal_of JobWaiting 0) _
-    (waiting_judged 9 (jobs_of c.args.engine.now.jobs 0) c.requires) c.in-Err.ensures
+    (waiting_judged 9 (jobs_of c.args.engine.now.jobs 0) c.requires) c.run.ensures

@@ -1,32 +1,16 @@
-use Rattle.std.proofs.Common.{drop, sym, ◌∙◌}
-use Rattle.std.proofs.lemmas.Bool.{le-leb, lt-leb}
-use Rattle.words.proofs.Loops.{from_index, from_end, spelled_more, spelled_sign, spelled_large, spelled_end}
+use Rattle.std.proofs.Common.{◌≡◌, ◌≤◌, rules, refl, subst, sym, arith, IfSome}
+use Rattle.std.proofs.iter.Yields.{fronts}
+use Rattle.std.proofs.lemmas.Iterator.{YieldsList-from_slice}
+use borrow.Author.Tests.{tests}
+use Rattle.words.specs.Numbers.{spelled}
+use Rattle.words.proofs.Folding.{spelled_within, spelled_by_turns}
 use Rattle.words.proofs.numbers.spell.Goals as goal
-
-pub returns-then-not-is_digit : goal.returns-then-not-is_digit
-returns-then-not-is_digit c =
-    let l = c.args.word.now in
-    let i = c.loop-b.b-index in
-    sym (spelled_sign c.args.most c.loop-b.value (drop i l) _ _ (from_index l i c.loop-b-test.true) (sym c.if-not-is_digit.ensures)) ∙ c.loop-b.invariant.0
-
-pub returns-then-value-most : goal.returns-then-value-most
-returns-then-value-most c =
-    let l = c.args.word.now in
-    let i = c.loop-b.b-index in
-    sym (spelled_large c.args.most c.loop-b.value (drop i l) _ _ (from_index l i c.loop-b-test.true) (sym c.if-not-is_digit.ensures) (lt-leb _ _ c.if-value-most.true))
-    ∙ c.loop-b.invariant.0
-
-pub loop-b-preserved : goal.loop-b-preserved
-loop-b-preserved c =
-    let l = c.args.word.now in
-    let i = c.loop-b.b-index in (
-      sym (spelled_more c.args.most c.loop-b.value (drop i l) _ _ (from_index l i c.loop-b-test.true) (sym c.if-not-is_digit.ensures) (le-leb _ _ c.if-value-most.false))
-          ∙ c.loop-b.invariant.0,
-      c.if-value-most.false,
-    )
 
 pub returns : goal.returns
 returns c =
     let l = c.args.word.now in
-    let i = c.loop-b.b-index in
-    sym (spelled_end c.args.most c.loop-b.value (drop i l) (from_end l i c.loop-b-test.false)) ∙ c.loop-b.invariant.0
+    let d = c.try_fold.ensures.ran in
+    let each = YieldsList-from_slice l c.iter.ensures.rest in
+    let value : c.try_fold.result ≡ spelled c.args.most 0 l =
+    spelled_by_turns _ fronts (λ y. y.now) _ _ c.args.most (λ a x r q h. search (rules, tests)) d.0 l _ d.4.0 _ _ 0 d.2 d.3 c.try_fold.result d.1 refl each.runs d.4.1 d.5 d.4.2 d.6 in
+    record { value = value; within = subst (λ r. IfSome r (λ n. n ≤ c.args.most)) (sym value) (spelled_within c.args.most 0 l (omega arith)) }

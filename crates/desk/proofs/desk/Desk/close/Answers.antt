@@ -1,7 +1,7 @@
 use Rattle.model.specs.Worlds.{world_of}
 use Rattle.desk.proofs.Keeping.{close_keeps}
-use Rattle.desk.proofs.Owing.{no_mem}
 use Rattle.desk.proofs.desk.Desk.close.Goals as goal
+use Rattle.model.proofs.Answers.{no_mem}
 
 pub invariant_of-self : goal.invariant_of-self
 invariant_of-self c =

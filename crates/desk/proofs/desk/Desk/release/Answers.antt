@@ -1,20 +1,11 @@
-use Rattle.std.proofs.Common.{◌≡◌, ℕ, ap, ◌∙◌, arith}
 use Rattle.model.specs.Worlds.{world_of, jobs_of}
-use Rattle.desk.specs.Answers.{held_answer}
-use Rattle.desk.proofs.Owing.{Owes, owes, no_mem}
+use Rattle.desk.proofs.Owing.{Owes, owes}
 use Rattle.desk.proofs.Keeping.{release_says}
 use Rattle.desk.proofs.desk.Desk.release.Goals as goal
+use Rattle.model.proofs.Answers.{no_mem}
 
-pub unreachable-requires : goal.unreachable-requires
-unreachable-requires c =
-    let self = c.args.self.now in
-    let o : Owes (jobs_of self.engine.jobs c.args.job) c.args.job c.in-Some.number =
-    owes (jobs_of self.engine.jobs) self.held.receipts c.args.job c.in-Some.number self.kept self.held.eight c.in-Some.ensures.number in
-    let p = c.in-Err.ensures.answer ∙ ap held_answer o.judged in
-    let z : ◌≡◌ {A = ℕ} 0 1 = cc in omega arith
-
-pub returns-in-Ok : goal.returns-in-Ok
-returns-in-Ok c =
+pub returns-in-Some : goal.returns-in-Some
+returns-in-Some c =
     let self = c.args.self.now in
     let o : Owes (jobs_of self.engine.jobs c.args.job) c.args.job c.in-Some.number =
     owes (jobs_of self.engine.jobs) self.held.receipts c.args.job c.in-Some.number self.kept self.held.eight c.in-Some.ensures.number in

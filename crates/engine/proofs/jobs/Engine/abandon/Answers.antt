@@ -1,36 +1,34 @@
-use Rattle.std.proofs.Common.{refl, ◌∙◌}
+use Rattle.std.proofs.Common.{◌≡◌, Err, Result, sym, ap, ◌∙◌, rules}
+use Rattle.std.proofs.lemmas.Result.{err_from_is_err_and}
 use Rattle.model.specs.Jobs.{closed_job}
 use Rattle.model.specs.Calls.{abandons, done}
 use Rattle.model.specs.Acts.{judge_receipt}
-use Rattle.model.specs.Worlds.{World, world_of, jobs_of}
+use Rattle.model.specs.Worlds.{World, Done, world_of, jobs_of, upd}
 use Rattle.model.proofs.Settling.{refuses, accepts, settles_record}
-use Rattle.engine.proofs.Judged.{given, withheld, seated}
+use Rattle.engine.specs.declared.receipt.Returned.{Returned}
+use Rattle.engine.specs.Answers.{returned_answer}
+use Rattle.engine.proofs.Judged.{given, withheld}
 use Rattle.engine.proofs.jobs.Engine.abandon.Goals as goal
 
-pub vacate-requires : goal.vacate-requires
-vacate-requires c =
+pub returns-in_err-job-clause-world : goal.returns-in_err-job-clause-world
+returns-in_err-job-clause-world c =
     let j = c.args.receipt.job in
+    let n = c.args.receipt.number in
     let b = jobs_of c.args.self.now.jobs j in
-    seated j _ (given (judge_receipt j c.args.receipt.number b) b _ c.in-Ok.ensures).0
+    let p = err_from_is_err_and c.from_residual.result c.from_residual.ensures.1 in
+    λ m.
+    let w : World = world_of c.args.self.now.jobs m in
+    refuses j (abandons n) w c.in_err-job.field-0.0.refusal (withheld (judge_receipt j n b) b _ c.in_err-job.ensures.judged)
+    ∙ ap {B = Done} (λ (r : Result (Unit {0}) Returned). record { world = w; answer = returned_answer r }) (sym (p.1 ∙ ap (λ (e : Returned). Err e) p.2))
 
-pub returns-in-Err : goal.returns-in-Err
-returns-in-Err c =
+pub returns-clause-world : goal.returns-clause-world
+returns-clause-world c =
     let j = c.args.receipt.job in
+    let n = c.args.receipt.number in
     let b = jobs_of c.args.self.now.jobs j in
-    record {
-      world = λ m. refuses j (abandons c.args.receipt.number) (world_of c.args.self.now.jobs m) _ (withheld (judge_receipt j c.args.receipt.number b) b _ c.in-Err.ensures);
-      handed = refl;
-    }
-
-pub returns-in-Ok : goal.returns-in-Ok
-returns-in-Ok c =
-    let j = c.args.receipt.job in
-    let b = jobs_of c.args.self.now.jobs j in
-    let took = given (judge_receipt j c.args.receipt.number b) b _ c.in-Ok.ensures in
-    record {
-      world = λ m.
-          let w : World = world_of c.args.self.now.jobs m in
-          accepts j (abandons c.args.receipt.number) w took.0
-          ∙ settles_record j w closed_job (jobs_of c.vacate.new.self.jobs) done c.vacate.ensures;
-      handed = tt;
-    }
+    let took = given (judge_receipt j n b) b _ c.in_ok-job.ensures.judged in
+    let same : c.in_ok-job.field-0.job ≡ j = search rules in
+    λ m.
+    let w : World = world_of c.args.self.now.jobs m in
+    accepts j (abandons n) w took.0
+    ∙ settles_record j w closed_job (jobs_of c.vacate.new.self.jobs) done (c.vacate.ensures ∙ ap (λ k. upd w.jobs k closed_job) same)

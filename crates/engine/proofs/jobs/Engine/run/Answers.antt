@@ -1,4 +1,4 @@
-use Rattle.std.proofs.Common.{◌≡◌, ℕ, Err, Result, sym, ap, ◌∙◌}
+use Rattle.std.proofs.Common.{◌≡◌, Err, Result, sym, ap, ◌∙◌}
 use Rattle.std.proofs.lemmas.Result.{err_from_is_err_and}
 use Rattle.refusal.specs.declared.Refusal.{Refusal}
 use Rattle.engine.specs.declared.receipt.Outcome.{Outcome}
@@ -9,7 +9,7 @@ use Rattle.model.specs.Jobs.{ran_job}
 use Rattle.model.specs.Calls.{runs}
 use Rattle.model.specs.Acts.{judge_run, owed_by}
 use Rattle.model.specs.Worlds.{World, Done, world_of, jobs_of, upd}
-use Rattle.model.proofs.Settling.{upd_same, refuses, accepts}
+use Rattle.model.proofs.Settling.{refuses, accepts}
 use Rattle.model.proofs.Landings.{run_settles, run_at, frame_at}
 use Rattle.engine.proofs.Judged.{given, withheld}
 use Rattle.engine.proofs.jobs.Engine.run.Goals as goal
@@ -41,5 +41,4 @@ returns g c =
     (run_at c.table_of-table.result.entries b.table n r c.in_ok-record.record.processor b.processor cpu m w.mem table (ap (λ (x : Job). x.processor) same) c.run_job-run.ensures.all)
     (frame_at c.table_of-table.result.entries b.table m w.mem table c.run_job-run.ensures.kept)
     put
-    (c.receipt_for.ensures ∙ ap (owed_by r.stop j) c.latest_call-number.ensures
-    ∙ ap (λ (f : ℕ → Job). owed_by r.stop j (f j).calls) put ∙ ap (λ (x : Job). owed_by r.stop j x.calls) (upd_same w.jobs j (ran_job b r cpu)))
+    (c.receipt_for.ensures ∙ ap (λ (x : Job). owed_by r.stop j x.calls) seat)
