@@ -1,6 +1,6 @@
 // The single board: one buffer of 65,536 bytes, of which all pages but the sealed take writes.
 ghost use Rattle.std.specs.Prelude.{◌≡◌, []};
-ghost use Rattle.boards.specs.Boards.{shows, Same};
+ghost use Rattle.boards.specs.Boards.{shows};
 ghost use Rattle.boards.specs.Singles.{single_mem};
 
 use crate::board;
@@ -17,7 +17,7 @@ impl board::Sealed<16> {
         ensures bytes { result.lower.now ≡ buffer.old }
         ensures empty { result.upper.now ≡ [] }
         ensures sealed { result.sealed ≡ self.pages }
-        ensures shown { Same (shows result) (single_mem buffer.old self.pages.mask) }
+        ensures shown { shows result ≡ single_mem buffer.old self.pages.mask }
     {
         self.over(buffer, &[])
     }

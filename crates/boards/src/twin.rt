@@ -1,6 +1,6 @@
 // The twin board: pages 0 to 7 in a buffer for writing, 8 to 15 in one for reading, 32,768 bytes each. Of the first all pages but the sealed take writes.
 ghost use Rattle.std.specs.Prelude.{◌≡◌};
-ghost use Rattle.boards.specs.Boards.{shows, Same};
+ghost use Rattle.boards.specs.Boards.{shows};
 ghost use Rattle.boards.specs.Twins.{twin_mem};
 
 use crate::board;
@@ -17,7 +17,7 @@ impl board::Sealed<8> {
         ensures writing { result.lower.now ≡ lower.old }
         ensures reading { result.upper.now ≡ upper.now }
         ensures sealed { result.sealed ≡ self.pages }
-        ensures shown { Same (shows result) (twin_mem lower.old upper.now self.pages.mask) }
+        ensures shown { shows result ≡ twin_mem lower.old upper.now self.pages.mask }
     {
         self.over(lower, upper)
     }

@@ -83,8 +83,7 @@ impl From<NotHeld> for Denial {
     }
 }
 
-// `State`, `Bank` and `Vec` are of other crates, so what prints them here are functions and no `Display`; so is what goes over a list,
-// of which no contract says what it prints.
+// Functions and no `Display`, which would be no plainer: states, banks and lists are not this crate's, and would be wrapped to be printed.
 fn write_bank<W: fmt::Write>(bank: &Bank, f: &mut fmt::Formatter<W>) -> fmt::Result {
     let Bank {
         a,

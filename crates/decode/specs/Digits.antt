@@ -1,11 +1,12 @@
 -- What the octal digits of an op code, and the selecting byte before it, name.
-use Rattle.std.specs.Prelude.{ℕ, cond, [], ◌∷◌, Some, None, Option, ◌==◌, slice_index_or}
+use Rattle.std.specs.Prelude.{ℕ, ◌%◌, cond, nat_le, [], ◌∷◌, Some, None, Option, ◌==◌, slice_index_or}
 use Rattle.registers.specs.declared.bank.Register.{Register}
 use Rattle.registers.specs.declared.bank.Register.TheVariants as r
 use Rattle.registers.specs.declared.bank.Pair.{Pair}
 use Rattle.registers.specs.declared.bank.Pair.TheVariants.{XA, BC, DE, HL}
 use Rattle.alu.specs.declared.Operation.{Operation}
 use Rattle.alu.specs.declared.Operation.TheVariants.{Add, AddCarry, Subtract, SubtractBorrow, And, ExclusiveOr, Or, Compare}
+use Rattle.registers.specs.declared.bank.Condition.{Condition}
 use Rattle.registers.specs.declared.bank.Flag.{Flag}
 use Rattle.registers.specs.declared.bank.Flag.TheVariants.{Carry, Zero, Sign, Parity}
 use Rattle.decode.specs.declared.instruction.Selector.{Selector}
@@ -18,6 +19,10 @@ register_of d = slice_index_or (r.A ∷ r.B ∷ r.C ∷ r.D ∷ r.E ∷ r.H ∷ 
 
 abbrev pub flag_of : ℕ → Flag
 flag_of d = slice_index_or (Carry ∷ Zero ∷ Sign ∷ Parity ∷ []) d Parity
+
+-- Digits 0 to 3 ask for a clear flag, 4 to 7 for one that is set.
+abbrev pub condition_of : ℕ → Condition
+condition_of d = record { flag = flag_of (d % 4); set = nat_le 4 d }
 
 abbrev pub operation_of : ℕ → Operation
 operation_of d = slice_index_or (Add ∷ AddCarry ∷ Subtract ∷ SubtractBorrow ∷ And ∷ ExclusiveOr ∷ Or ∷ Compare ∷ []) d Compare

@@ -9,7 +9,7 @@ use Rattle.decode.specs.declared.instruction.Selector.TheVariants as s
 use Rattle.decode.specs.declared.instruction.Source.TheVariants.{Immediate}
 use Rattle.decode.specs.declared.instruction.Instruction.{Instruction}
 use Rattle.decode.specs.declared.instruction.Instruction.TheVariants as i
-use Rattle.decode.specs.Digits.{register_of, flag_of, operation_of, source_of, implied_by, pair_by}
+use Rattle.decode.specs.Digits.{register_of, condition_of, operation_of, source_of, implied_by, pair_by}
 
 abbrev pub Answer : Type 0
 Answer = Result Instruction Fault
@@ -34,7 +34,7 @@ first_plain_of d l =
     (cond (are d l 5 2) (Ok i.Break)
     (cond (are d l 6 7) (Ok i.CallSystem)
     (cond (are d l 7 7) (Err Privileged)
-    (cond (l == 3) (Ok (i.ReturnIf (flag_of (d % 4)) (nat_le 4 d)))
+    (cond (l == 3) (Ok (i.ReturnIf (condition_of d)))
     (cond (l == 6) (Ok (i.LoadImmediate (register_of d)))
     (Err NotCarried)))))))))))))))
 
@@ -84,8 +84,8 @@ second_of s d l =
     (if_none s
     (cond (are d l 0 4) (Ok i.Jump)
     (cond (are d l 0 6) (Ok i.Call)
-    (cond (l == 0) (Ok (i.JumpIf (flag_of (d % 4)) (nat_le 4 d)))
-    (cond (l == 2) (Ok (i.CallIf (flag_of (d % 4)) (nat_le 4 d)))
+    (cond (l == 0) (Ok (i.JumpIf (condition_of d)))
+    (cond (l == 2) (Ok (i.CallIf (condition_of d)))
     (Err NotCarried)))))))
 
 -- 3dl

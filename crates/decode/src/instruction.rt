@@ -1,6 +1,6 @@
 // The instructions that are carried.
 use alu::{Operation, Shift};
-use registers::bank::{Flag, Pair, Register};
+use registers::bank::{Condition, Pair, Register};
 
 // What a selecting byte selects: any register but A.
 #[derive(Clone, Copy)]
@@ -24,7 +24,7 @@ pub enum Source {
     Immediate,
 }
 
-// An instruction with its mnemonic. A conditional one has its flag, and whether that is wanted set or not.
+// An instruction with its mnemonic.
 #[derive(Clone, Copy)]
 pub enum Instruction {
     // HALT
@@ -44,15 +44,15 @@ pub enum Instruction {
     // JMP
     Jump,
     // JT JF
-    JumpIf(Flag, bool),
+    JumpIf(Condition),
     // CALL
     Call,
     // CT CF
-    CallIf(Flag, bool),
+    CallIf(Condition),
     // RET
     Return,
     // RT RF
-    ReturnIf(Flag, bool),
+    ReturnIf(Condition),
     // PUSH
     Push(Pair),
     // PUSH loc

@@ -2,7 +2,7 @@
 #![tactic(auto)]
 
 ghost use Rattle.std.specs.Prelude.{◌≡◌, ℕ, ◌/◌, ◌%◌};
-ghost use Rattle.decode.specs.Digits.{register_of, flag_of, operation_of, source_of, selector_of, implied_by, pair_by};
+ghost use Rattle.decode.specs.Digits.{register_of, flag_of, condition_of, operation_of, source_of, selector_of, implied_by, pair_by};
 ghost use Rattle.decode.specs.Patterns.{carried, first_plain_of, first_after_of, first_of, second_of, last_of, decode_of};
 
 pub mod instruction;
@@ -10,7 +10,7 @@ pub mod lengths;
 
 use alu::{Operation, Shift};
 use instruction::{Instruction, Selector, Source};
-use registers::bank::{Flag, Pair, Register};
+use registers::bank::{Condition, Flag, Pair, Register};
 use stop::Fault;
 
 // What a digit names. These are no `From<u8>`: a number by itself names no register.
@@ -37,6 +37,16 @@ fn flag_at(digit: u8) -> Flag
         1 => Flag::Zero,
         2 => Flag::Sign,
         _ => Flag::Parity,
+    }
+}
+
+// Digits 0 to 3 ask for a clear flag, 4 to 7 for one that is set.
+fn condition_at(digit: u8) -> Condition
+    ensures { result ≡ condition_of digit }
+{
+    Condition {
+        flag: flag_at(digit % 4),
+        set: digit >= 4,
     }
 }
 
@@ -137,7 +147,7 @@ impl Code {
             (6, 7) => Ok(Instruction::CallSystem),
             // the load of the sector table
             (7, 7) => Err(Fault::Privileged),
-            (d, 3) => Ok(Instruction::ReturnIf(flag_at(d % 4), d >= 4)),
+            (d, 3) => Ok(Instruction::ReturnIf(condition_at(d))),
             (d, 6) => Ok(Instruction::LoadImmediate(register_at(d))),
             _ => Err(Fault::NotCarried),
         }
@@ -185,8 +195,8 @@ impl Code {
             _ if self.selector.is_some() => Err(Fault::NotCarried),
             (0, 4) => Ok(Instruction::Jump),
             (0, 6) => Ok(Instruction::Call),
-            (d, 0) => Ok(Instruction::JumpIf(flag_at(d % 4), d >= 4)),
-            (d, 2) => Ok(Instruction::CallIf(flag_at(d % 4), d >= 4)),
+            (d, 0) => Ok(Instruction::JumpIf(condition_at(d))),
+            (d, 2) => Ok(Instruction::CallIf(condition_at(d))),
             _ => Err(Fault::NotCarried),
         }
     }

@@ -1,5 +1,5 @@
 -- What each call of the engine does to what is owed.
-use Rattle.std.proofs.Common.{◌≡◌, ℕ, zero, suc, ◌<◌, Bool, true, false, cond, not, eqb, List, length, get_or, set, replicate, Some, None, Ok, Err, Option, Result, IsOk, sym, refl, ap, ◌∙◌, subst, ap₂, arith, eq-eqb, eqb-true}
+use Rattle.std.proofs.Common.{◌≡◌, ℕ, ◌<◌, Bool, true, false, cond, not, eqb, List, length, get_or, set, replicate, Some, None, Ok, Err, Option, Result, IsOk, sym, refl, ap, ◌∙◌, subst, ap₂, arith, eq-eqb, eqb-true}
 use Rattle.refusal.specs.declared.Ground.TheVariants.{JobWaiting, AlreadyOpen}
 use Rattle.refusal.specs.declared.Refusal.{Refusal}
 use Rattle.refusal.specs.Judging.{Judgement, when}
@@ -17,7 +17,7 @@ use Rattle.model.specs.declared.job.Status.TheVariants.{Closed, Ready, Waiting, 
 use Rattle.model.specs.Jobs.{closed_job, opened_job, is_open, is_waiting, status_after, ran_job}
 use Rattle.model.specs.Calls.{opens, asks, Ask, runs, abandons, closes, Owed, Answer, refused, done, ran}
 use Rattle.model.specs.Acts.{no_such_job, not_open, waits, owed_by, ran_left, judge_ask, judge_run, judge_close, judge_receipt, effect_of}
-use Rattle.model.specs.Worlds.{World, Done, jobs_of, no_job, space_at, upd, settle, judge_open, unless_open, does}
+use Rattle.model.specs.Worlds.{World, Done, jobs_of, space_at, upd, settle, judge_open, unless_open, does}
 use Rattle.model.proofs.Settling.{upd_same, refuses, accepts}
 use Rattle.engine.specs.declared.receipt.Receipt.{Receipt}
 use Rattle.engine.specs.declared.receipt.Returned.{Returned}
@@ -28,6 +28,7 @@ use Rattle.desk.specs.Owing.{owed_to, released}
 use Rattle.desk.specs.Held.{fitting}
 use Rattle.desk.proofs.Owing.{Waits, Taken, Owes, held_waits, accepted, taken, refused_receipt, idle_kept, all_kept}
 use Rattle.model.proofs.Answers.{refused_done, refused_ran}
+use Rattle.model.proofs.Seats.{seats, replicated}
 
 shut_idle : (s : Status) → is_open s ≡ false → is_waiting s ≡ false
 shut_idle Closed h = refl
@@ -81,21 +82,11 @@ module _ (w v : World) (a : Answer) where
           refl)
 
 -- A new engine owes nothing.
-new_seat : (n k : ℕ) → is_waiting (get_or (replicate n closed_job) k no_job).status ≡ false
-new_seat zero k = refl
-new_seat (suc n) zero = refl
-new_seat (suc n) (suc k) = new_seat n k
-
-no_place : (n k : ℕ) → ◌≡◌ {A = Option Receipt} (get_or (replicate n None) k None) None
-no_place zero k = refl
-no_place (suc n) zero = refl
-no_place (suc n) (suc k) = no_place n k
-
 pub new_keeps : (f : ℕ → Job) (rs : List (Option Receipt)) → f ≡ jobs_of (replicate 8 closed_job) → rs ≡ replicate 8 None
     → (k : ℕ) → owed_to k (f k) (get_or rs k None) ≡ true
 new_keeps f rs ef er k =
-    subst (λ (x : Option Receipt). owed_to k (f k) x ≡ true) (sym (ap (λ (l : List (Option Receipt)). get_or l k None) er ∙ no_place 8 k))
-    (ap not (ap (λ (g : ℕ → Job). is_waiting (g k).status) ef ∙ new_seat 8 k))
+    subst (λ (x : Option Receipt). owed_to k (f k) x ≡ true) (sym (ap (λ (l : List (Option Receipt)). get_or l k None) er ∙ replicated None 8 k))
+    (ap not (ap (λ (g : ℕ → Job). is_waiting (g k).status) ef ∙ seats (λ b. is_waiting b.status ≡ false) refl refl 8 k))
 
 job_in : Option Owed → ℕ
 job_in None = 0

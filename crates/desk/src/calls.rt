@@ -136,7 +136,8 @@ impl Desk {
         }
     }
 
-    // Abandons whatever is owed, which is accepted, and gives back the engine: no job of it waits.
+    // Abandons whatever is owed, which is accepted, and gives back the engine: no job of it waits. Each host makes, uses and finishes its desk
+    // itself: a function that is given that use as a closure would require that it may be called, and no public function requires anything.
     pub fn finish(mut self) -> Engine
         ensures { (k : ℕ) → jobs_of result.jobs k ≡ released (jobs_of self.engine.jobs k) }
     {

@@ -1,12 +1,16 @@
 -- What an accepted or refused judgement says.
-use Rattle.std.proofs.Common.{◌≡◌, ℕ, ◌+◌, ◌<◌, ◌≤◌, ltb, Ok, Err, Result, sym, refl, ap, arith}
+use Rattle.std.proofs.Common.{◌≡◌, ℕ, ◌<◌, ◌≤◌, ltb, Ok, Err, Result, sym, refl, ap, arith, ◌∙◌}
 use Rattle.std.proofs.lemmas.Bool.{ltb-false}
 use Rattle.refusal.specs.declared.Refusal.{Refusal}
 use Rattle.refusal.specs.Judging.{Judgement, also}
 use Rattle.model.specs.declared.job.Job.{Job}
-use Rattle.model.specs.Acts.{no_such_job, not_open, waits, ended, too_many, judge_run}
+use Rattle.model.specs.Acts.{no_such_job}
 use Rattle.engine.specs.Judges.{or_refused}
 use Rattle.refusal.proofs.Judgements.{err_ok, passed, when_no}
+use Rattle.std.specs.Result.{IsErrAnd}
+use Rattle.std.proofs.lemmas.Result.{err_from_is_err_and}
+use Rattle.model.specs.Calls.{Answer}
+use Rattle.model.specs.Worlds.{World, Done}
 
 ok_err : {A : Type 0} (b : Job) (e : Refusal) → ◌≡◌ {A = Result Job Refusal} (Ok b) (Err e) → A
 ok_err b e p = absurd (let z : ◌≡◌ {A = ℕ} 0 1 = cc in omega arith)
@@ -38,3 +42,10 @@ goes_on (Ok u) (Ok v) more p = refl
 pub alone : (x : Judgement) → also x (Ok tt) ≡ x
 alone (Ok u) = refl
 alone (Err e) = refl
+
+-- A call that hands a refusal on answers by it.
+pub hands_on : {X Y : Type 0} (answer : Result X Y → Answer) (w : World) (d : Done) (r : Result X Y) (e : Y)
+    → d ≡ record { world = w; answer = answer (Err e) } → IsErrAnd r (λ y. y ≡ e) → d ≡ record { world = w; answer = answer r }
+hands_on {X} {Y} answer w d r e p h =
+    let q = err_from_is_err_and r h in
+    p ∙ ap {B = Done} (λ (z : Result X Y). record { world = w; answer = answer z }) (sym (q.1 ∙ ap (λ (y : Y). Err y) q.2))

@@ -68,7 +68,7 @@ impl Engine {
         requires { k < 8 }
         ensures { result ≡ (not (k == job) && holds (jobs_of self.now.jobs k).table page.number) }
     {
-        let record = self.jobs[k as usize];
+        let record = &self.jobs[k as usize];
         k != job && names_page(&record.table, 15, page)
     }
 

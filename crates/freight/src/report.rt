@@ -52,7 +52,8 @@ fn write_figure<W: fmt::Write, T: fmt::Display + PartialEq + Copy>(
 }
 
 impl Comparison {
-    // A row for each shipment, with what it costs both ways.
+    // A row for each shipment, with what it costs both ways. By place and no `zip`: a shipper may have delivered fewer charges than there are
+    // shipments.
     fn write_charges<W: fmt::Write>(&self, f: &mut fmt::Formatter<W>) -> fmt::Result {
         for (place, shipment) in SHIPMENTS.iter().enumerate() {
             let alone = Amount(self.alone.charges.get(place).copied());

@@ -65,7 +65,8 @@ fn say(rt: &HostRuntime, answer: Result<Answer, Denial>) -> anyhow::Result<()> {
 }
 
 impl Console<'_> {
-    // Follows the lines on memory up to the first other command, which it gives.
+    // Follows the lines on memory up to the first other command, which it gives. The loop over lines stands here and below: one that asks a
+    // method for the next command would not be seen to end.
     fn set_up(&mut self, plan: &mut Plan, board: &mut [u8]) -> anyhow::Result<Option<Command>> {
         for line in &mut self.lines {
             match parse(line?.as_slice(), self.rt.alloc()) {

@@ -39,7 +39,7 @@ pub struct Shown {
     pub number: u32,
     pub waiting: Refusal,
     pub closing: Result<(), Refusal>,
-    pub elsewhere: Option<Refusal>,
+    pub elsewhere: Result<(), Refusal>,
 }
 
 // Runs job 0 up to a system call, runs it once more, tries to close it, shows the receipt to another engine, and abandons it at its own. None without a system call.
@@ -56,10 +56,10 @@ pub fn show_elsewhere<M: Memory>(
     let waiting = run_waiting(engine, memory);
     let closing = close_waiting(engine);
     let elsewhere = match other.abandon(owed) {
-        Ok(()) => None,
+        Ok(()) => Ok(()),
         Err(Returned { refusal, receipt }) => {
             abandon_owed(engine, receipt);
-            Some(refusal)
+            Err(refusal)
         }
     };
     Ok(Some(Shown {

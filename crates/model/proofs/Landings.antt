@@ -1,5 +1,5 @@
 -- What a run did to memory is its space written back.
-use Rattle.std.proofs.lemmas.Bool.{and_from}
+use Rattle.std.proofs.lemmas.Bool.{and_from, and_parts, false_from_ne_true}
 use Rattle.std.proofs.Common.{◌≡◌, ℕ, zero, suc, ◌+◌, ◌*◌, ◌/◌, ◌%◌, ◌<◌, Bool, true, false, cond, ◌&&◌, ◌||◌, eqb, Option, sym, refl, ap, ◌∙◌, subst, arith, eqb-true}
 use Rattle.memory.specs.Memories.{Mem}
 use Rattle.space.specs.Cells.{Cells, Frame}
@@ -8,7 +8,7 @@ use Rattle.table.specs.Tables.{entry_of, access_in, writing_in, cells_by, writes
 use Rattle.runs.specs.declared.Ran.{Ran}
 use Rattle.runs.specs.Runs.{Over, ran as over, run_of}
 use Rattle.pages.specs.Held.{Table, page_of, shown, bytes_of, holds, back_byte, back}
-use Rattle.pages.proofs.Truths.{clash, and_left, and_right, not_so}
+use Rattle.pages.proofs.Truths.{clash}
 use Rattle.pages.proofs.Spaces.{At, named_at, shown_at, lands}
 use Rattle.model.specs.declared.job.Job.{Job}
 use Rattle.model.specs.Jobs.{ran_job}
@@ -38,8 +38,8 @@ writes_some t (suc n) p e =
       n,
       record {
         low = omega arith;
-        access = and_left acc (wr && eq) h;
-        page = eqb-true (page_of t n) p (and_right wr eq (and_right acc (wr && eq) h));
+        access = (and_parts acc (wr && eq) h).0;
+        page = eqb-true (page_of t n) p ((and_parts wr eq ((and_parts acc (wr && eq) h).1)).1);
       },
     ))
     (λ h. let f = writes_some t n p h in (f.0, record { low = (let l : f.0 < n = f.1.low in omega arith); access = f.1.access; page = f.1.page }))
@@ -61,10 +61,10 @@ module _ (t : Table) (m m' : Mem) (s : Cells) (frame : frame_by 0 t m' ≡ frame
   outside : (x : ℕ) → (holds t (x / 4096) && m.takes (x / 4096)) ≡ false → m'.byte x ≡ m.byte x
   outside x h =
       let p : ℕ = x / 4096 in
-      bytes_kept x (not_so (writes t 15 p && m.takes p) (λ e.
-      let f = writes_some t 15 p (and_left (writes t 15 p) (m.takes p) e) in
+      bytes_kept x (false_from_ne_true (writes t 15 p && m.takes p) (λ e.
+      let f = writes_some t 15 p ((and_parts (writes t 15 p) (m.takes p) e).0) in
       clash (holds t p && m.takes p)
-      (and_from (holds t p) (m.takes p) (named_at 15 t p f.0 (record { low = f.1.low; access = f.1.access; page = f.1.page })) (and_right (writes t 15 p) (m.takes p) e))
+      (and_from (holds t p) (m.takes p) (named_at 15 t p f.0 (record { low = f.1.low; access = f.1.access; page = f.1.page })) ((and_parts (writes t 15 p) (m.takes p) e).1))
       h))
 
   inside : (x i : ℕ) → At t 15 (x / 4096) i → m.takes (x / 4096) ≡ true → m'.byte x ≡ bytes_of s (i * 4096 + x % 4096)

@@ -7,10 +7,16 @@ use Rattle.model.specs.Jobs.{closed_job}
 use Rattle.model.specs.Worlds.{no_job, jobs_of, twice}
 
 -- What holds of a closed record holds of each.
-seats : (P : Job → Type 0) → P closed_job → P no_job → (n k : ℕ) → P (get_or (replicate n closed_job) k no_job)
+pub seats : (P : Job → Type 0) → P closed_job → P no_job → (n k : ℕ) → P (get_or (replicate n closed_job) k no_job)
 seats P c o zero k = o
 seats P c o (suc n) zero = c
 seats P c o (suc n) (suc k) = seats P c o n k
+
+-- A list of one value has it at each place, and past its end too.
+pub replicated : {A : Type 0} (x : A) (n k : ℕ) → get_or (replicate n x) k x ≡ x
+replicated x zero k = refl
+replicated x (suc n) zero = refl
+replicated x (suc n) (suc k) = replicated x n k
 
 shut_once : twice closed_job.table ≡ false
 unfolding first_from named finds

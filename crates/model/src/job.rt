@@ -49,7 +49,7 @@ pub struct State {
 }
 
 // The eight registers of a bank, as a reply gives them: without flags, which is why it is no `Bank`.
-#[derive(Clone, Copy, PartialEq, Eq, Debug)]
+#[derive(Clone, Copy, PartialEq, Eq, Debug, Default)]
 pub struct Registers {
     pub a: u8,
     pub b: u8,

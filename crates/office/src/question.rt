@@ -42,14 +42,9 @@ fn registers_with(b: u8, c: u8) -> Registers
     ensures { result ≡ plain_reply b c }
 {
     Registers {
-        a: 0,
         b,
         c,
-        d: 0,
-        e: 0,
-        h: 0,
-        l: 0,
-        x: 0,
+        ..Registers::default()
     }
 }
 

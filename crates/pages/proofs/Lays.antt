@@ -2,7 +2,7 @@
 use Rattle.std.proofs.Common.{◌≡◌, ℕ, ◌+◌, ◌-◌, ◌*◌, ◌/◌, ◌%◌, ◌<◌, ◌≤◌, Bool, true, false, cond, ◌&&◌, eqb, ltb, leb, List, length, get_or, None, Ok, sym, refl, ap, ◌∙◌, arith, eq-eqb, ne_eqb, eqb-true}
 use mathlib.Core.Path.{fun_ext}
 use borrow.Author.Tests.{eqb-false}
-use Rattle.std.proofs.lemmas.Bool.{not-false, ltb-false, and_from}
+use Rattle.std.proofs.lemmas.Bool.{not-false, ltb-false, and_from, and_parts}
 use Rattle.std.proofs.lemmas.Bool.Decides.{nat_tests}
 use Rattle.refusal.specs.declared.Ground.TheVariants.{OutOfRange, NoAccess, NoWrites}
 use Rattle.refusal.specs.Judging.{at, picked, first_from}
@@ -14,7 +14,7 @@ use Rattle.table.proofs.Places.{one_place}
 use Rattle.pages.specs.Held.{Table, page_of, shown, bytes_of, holds, back, back_byte}
 use Rattle.pages.specs.Entries.{shut_at, refuses_at}
 use Rattle.pages.specs.Loads.{past, judge_load, laid_to, laid}
-use Rattle.pages.proofs.Truths.{clash, and_right, by_test}
+use Rattle.pages.proofs.Truths.{clash, by_test}
 use Rattle.pages.proofs.Spaces.{lands, shown_at, place_page, holds_at}
 use Rattle.pages.proofs.Clears.{with_bytes}
 use Rattle.refusal.proofs.Judgements.{passed, nowhere}
@@ -88,7 +88,7 @@ module _ (t : Table) (once : Apart t) (a : ℕ) (bs : List ℕ) (m₀ : Mem) (fi
 
   takes_here : i < length bs → m₀.takes (page_of t ((a + i) / 4096)) ≡ true
   unfolding shown
-  takes_here h = and_right (access_in (entry_of t ((a + i) / 4096))) (m₀.takes (page_of t ((a + i) / 4096))) (fine.takes i h)
+  takes_here h = (and_parts (access_in (entry_of t ((a + i) / 4096))) (m₀.takes (page_of t ((a + i) / 4096))) (fine.takes i h)).1
 
   -- The page of the next byte takes writes.
   pub lay_takes : (p : ℕ) → i < length bs → p ≡ physical t (a + i) → m.takes (p / 4096) ≡ true

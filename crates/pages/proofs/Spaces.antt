@@ -1,5 +1,5 @@
 -- The algebra of a space that is written back.
-use Rattle.std.proofs.lemmas.Bool.{and_from}
+use Rattle.std.proofs.lemmas.Bool.{and_from, and_parts}
 use Rattle.std.proofs.Common.{◌≡◌, ℕ, zero, suc, ◌+◌, ◌*◌, ◌/◌, ◌%◌, ◌<◌, Bool, true, false, cond, ◌&&◌, eqb, ◌≢◌, sym, refl, ap, ◌∙◌, arith, eq-eqb, eqb-true}
 use mathlib.Core.Path.{fun_ext}
 use borrow.Author.Tests.{eqb-false}
@@ -7,7 +7,7 @@ use Rattle.memory.specs.Memories.{Mem}
 use Rattle.space.specs.Cells.{Cell}
 use Rattle.table.specs.Tables.{Apart, entry_of, access_in, physical}
 use Rattle.pages.specs.Held.{Table, page_of, bytes_of, shown, Where, nowhere, sector, finds, is_there, named, holds, pick, back_byte, back, clip}
-use Rattle.pages.proofs.Truths.{clash, and_left, and_right, by_test}
+use Rattle.pages.proofs.Truths.{clash, by_test}
 
 -- What is found is a sector that has access to the page.
 pub record At (t : Table) (n p i : ℕ) : Type 0 where
@@ -40,8 +40,8 @@ found t (suc n) p = go (access_in (entry_of t n) && eqb (page_of t n) p) refl (f
     go true e g =
         record {
           low = omega arith;
-          access = and_left (access_in (entry_of t n)) (eqb (page_of t n) p) e;
-          page = eqb-true (page_of t n) p (and_right (access_in (entry_of t n)) (eqb (page_of t n) p) e);
+          access = (and_parts (access_in (entry_of t n)) (eqb (page_of t n) p) e).0;
+          page = eqb-true (page_of t n) p ((and_parts (access_in (entry_of t n)) (eqb (page_of t n) p) e).1);
         }
     go false e g = wider t n p (finds t n p) e g
 

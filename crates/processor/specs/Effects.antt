@@ -1,5 +1,5 @@
 -- What an instruction does to the processor and the cells once its bytes are fetched.
-use Rattle.std.specs.Prelude.{ℕ, ◌%◌, Bool, true, false, Some, None, Ok, Err, Result, ◌==◌}
+use Rattle.std.specs.Prelude.{ℕ, ◌%◌, Bool, true, false, cond, Some, None, Ok, Err, Result, ◌==◌}
 use Rattle.registers.specs.declared.bank.Bank.{Bank}
 use Rattle.registers.specs.declared.bank.Register.{Register}
 use Rattle.registers.specs.declared.bank.Pair.{Pair}
@@ -7,7 +7,7 @@ use Rattle.registers.specs.declared.bank.Pair.TheVariants.{HL}
 use Rattle.registers.specs.declared.stack.Stack.{Stack}
 use Rattle.registers.specs.declared.processor.Processor.{Processor}
 use Rattle.registers.specs.declared.processor.Mode.TheVariants.{Alpha, Beta}
-use Rattle.registers.specs.Banks.{value_in, with_value, pair_in, with_pair, flag_in, with_flags, with_carry}
+use Rattle.registers.specs.Banks.{value_in, with_value, pair_in, with_pair, holds_of, with_flags, with_carry}
 use Rattle.registers.specs.Stacks.{pushed, popped, on_top}
 use Rattle.registers.specs.Processors.{bank_of, with_bank, with_p, with_stack, with_interrupts, with_mode}
 use Rattle.alu.specs.declared.Operation.{Operation}
@@ -90,13 +90,6 @@ pushed_on c v = with_stack c (pushed c.stack v)
 abbrev pub popped_into : Processor → Pair → Processor
 popped_into c p = with_bank (with_stack c (popped c.stack)) (with_pair (bank_of c) p (on_top c.stack))
 
--- The first if the flag is as wanted, else the second.
-abbrev pub if_flag : Bool → Bool → Effect → Effect → Effect
-if_flag true true x y = x
-if_flag true false x y = y
-if_flag false true x y = y
-if_flag false false x y = x
-
 abbrev pub read_into : Result ℕ Fault → Register → Processor → Cells → Effect
 read_into (Ok b) r c s = on plain (loaded c r b) s
 read_into (Err e) r c s = effect (Err e) c s
@@ -143,11 +136,11 @@ effect_of (i.StoreToMemory r p) v c s =
 effect_of (i.Operate o from r) v c s = operated_with (source_in from s (bank_of c) v) o r c s
 effect_of (i.Shift t r) v c s = on plain (turned c t r) s
 effect_of i.Jump v c s = on plain (with_p c v) s
-effect_of (i.JumpIf f w) v c s = if_flag (flag_in (bank_of c).flags f) w (on taken (with_p c v) s) (on plain c s)
+effect_of (i.JumpIf k) v c s = cond (holds_of k (bank_of c).flags) (on taken (with_p c v) s) (on plain c s)
 effect_of i.Call v c s = on plain (called_to c v) s
-effect_of (i.CallIf f w) v c s = if_flag (flag_in (bank_of c).flags f) w (on taken (called_to c v) s) (on plain c s)
+effect_of (i.CallIf k) v c s = cond (holds_of k (bank_of c).flags) (on taken (called_to c v) s) (on plain c s)
 effect_of i.Return v c s = on plain (returned c) s
-effect_of (i.ReturnIf f w) v c s = if_flag (flag_in (bank_of c).flags f) w (on taken (returned c) s) (on plain c s)
+effect_of (i.ReturnIf k) v c s = cond (holds_of k (bank_of c).flags) (on taken (returned c) s) (on plain c s)
 effect_of (i.Push p) v c s = on plain (pushed_on c (pair_in (bank_of c) p)) s
 effect_of i.PushImmediate v c s = on plain (pushed_on c v) s
 effect_of (i.Pop p) v c s = on plain (popped_into c p) s

@@ -191,7 +191,7 @@ pub(crate) fn execute<S: Space>(
             cpu.p = operand;
             Ok(plainly())
         }
-        Instruction::JumpIf(flag, wanted) if bank.flags.get(flag) == wanted => {
+        Instruction::JumpIf(condition) if condition.holds(bank.flags) => {
             cpu.p = operand;
             Ok(taking())
         }
@@ -199,7 +199,7 @@ pub(crate) fn execute<S: Space>(
             call_to(cpu, operand);
             Ok(plainly())
         }
-        Instruction::CallIf(flag, wanted) if bank.flags.get(flag) == wanted => {
+        Instruction::CallIf(condition) if condition.holds(bank.flags) => {
             call_to(cpu, operand);
             Ok(taking())
         }
@@ -207,11 +207,11 @@ pub(crate) fn execute<S: Space>(
             return_back(cpu);
             Ok(plainly())
         }
-        Instruction::ReturnIf(flag, wanted) if bank.flags.get(flag) == wanted => {
+        Instruction::ReturnIf(condition) if condition.holds(bank.flags) => {
             return_back(cpu);
             Ok(taking())
         }
-        Instruction::JumpIf(_, _) | Instruction::CallIf(_, _) | Instruction::ReturnIf(_, _) => {
+        Instruction::JumpIf(_) | Instruction::CallIf(_) | Instruction::ReturnIf(_) => {
             Ok(plainly())
         }
         Instruction::Push(pair) => {

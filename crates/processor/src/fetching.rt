@@ -74,9 +74,9 @@ pub(crate) fn fetch_operand<S: Space>(space: &S, i: Instruction, at: u16) -> Res
         Instruction::LoadImmediate(_) => read_byte(space, at),
         Instruction::Operate(_, Source::Immediate, _) => read_byte(space, at),
         Instruction::Jump
-        | Instruction::JumpIf(_, _)
+        | Instruction::JumpIf(_)
         | Instruction::Call
-        | Instruction::CallIf(_, _)
+        | Instruction::CallIf(_)
         | Instruction::PushImmediate => read_address(space, at),
         _ => Ok(Operand { value: 0, next: at }),
     }

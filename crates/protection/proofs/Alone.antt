@@ -9,7 +9,7 @@ use Rattle.memory.specs.Memories.{Mem}
 use Rattle.space.specs.Cells.{Cells}
 use Rattle.table.specs.Tables.{Apart}
 use Rattle.pages.specs.Held.{Table, shown, back, clip}
-use Rattle.pages.proofs.Truths.{clash, and_left, and_right}
+use Rattle.pages.proofs.Truths.{clash}
 use Rattle.pages.proofs.Spaces.{local}
 use Rattle.model.specs.declared.job.Job.{Job}
 use Rattle.model.specs.Jobs.{is_open, opened_job}
@@ -23,6 +23,7 @@ use Rattle.protection.proofs.Asides.{shown_tells, begins}
 use Rattle.protection.proofs.Lawful.{Law, act_law}
 use Rattle.protection.proofs.Invariant.{Inv, inv_does, inv_new, inv_after, Leaves, call_leaves, open_all}
 use Rattle.model.proofs.Answers.{refused_done}
+use Rattle.std.proofs.lemmas.Bool.{and_parts}
 
 -- What a call does to its job once that is open: an opening is refused then.
 abbrev refused_opening : ℕ → Judgement
@@ -176,9 +177,9 @@ left_solo j (c ∷ cs) w I o q = go (eqb (names c) j) refl (left_solo j cs) q
     go true e rec p =
         let h : Alone j c (does c w) (solo c (w.jobs j) (space_at w j)) = own_here j w I o c e in
         let n : ends c (solo c (w.jobs j) (space_at w j)).answer ≡ false
-        = ap (ends c) (sym h.said) ∙ not-true (ends c (does c w).answer) (and_left (not (ends c (does c w).answer)) (endless (said_to j cs (does c w).world)) p) in
+        = ap (ends c) (sym h.said) ∙ not-true (ends c (does c w).answer) ((and_parts (not (ends c (does c w).answer)) (endless (said_to j cs (does c w).world)) p).0) in
         let g = h.goes n in
-        rec (does c w).world (inv_does c w I) g.2 (and_right (not (ends c (does c w).answer)) (endless (said_to j cs (does c w).world)) p)
+        rec (does c w).world (inv_does c w I) g.2 ((and_parts (not (ends c (does c w).answer)) (endless (said_to j cs (does c w).world)) p).1)
         ∙ ap (λ b. solo_left (calls_to j cs) b (space_at (does c w).world j)) g.0
         ∙ ap (solo_left (calls_to j cs) (solo c (w.jobs j) (space_at w j)).job) g.1
     go false e rec p =

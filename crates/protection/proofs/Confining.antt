@@ -1,5 +1,5 @@
 -- No call alters a byte that its job has no right to.
-use Rattle.std.proofs.lemmas.Bool.{and_from}
+use Rattle.std.proofs.lemmas.Bool.{and_from, and_parts, false_from_ne_true}
 use Rattle.std.proofs.Common.{◌≡◌, ℕ, ◌+◌, ◌*◌, ◌/◌, ◌%◌, Bool, true, false, ◌&&◌, Ok, Err, sym, refl, ap, ◌∙◌}
 use Rattle.refusal.specs.Judging.{Judgement}
 use Rattle.memory.specs.Memories.{Mem}
@@ -9,7 +9,7 @@ use Rattle.table.proofs.Places.{named}
 use Rattle.runs.specs.Runs.{run_of}
 use Rattle.runs.proofs.Kept.{run_quiet}
 use Rattle.pages.specs.Held.{Table, shown, bytes_of}
-use Rattle.pages.proofs.Truths.{clash, and_left, and_right, not_so}
+use Rattle.pages.proofs.Truths.{clash}
 use Rattle.pages.proofs.Spaces.{At, in_sector, shown_at, back_all, back_else}
 use Rattle.model.specs.declared.job.Job.{Job}
 use Rattle.model.specs.Jobs.{opened_job}
@@ -51,8 +51,8 @@ run_byte t m n c x i h g q =
     let acc : Bool = access_in e in
     let wr : Bool = writing_in e && m.takes (page_in e) in
     (run_quiet n 0 0 c (shown t m) a).byte
-    (not_so (acc && (acc && wr)) (λ p.
-    let writing : writing_in (entry_of t i) ≡ true = ap writing_in (sym here) ∙ and_left (writing_in e) (m.takes (page_in e)) (and_right acc wr (and_right acc (acc && wr) p)) in
+    (false_from_ne_true (acc && (acc && wr)) (λ p.
+    let writing : writing_in (entry_of t i) ≡ true = ap writing_in (sym here) ∙ (and_parts (writing_in e) (m.takes (page_in e)) ((and_parts acc wr ((and_parts acc (acc && wr) p).1)).1)).0 in
     clash (writes t 15 (x / 4096) && m.takes (x / 4096))
     (and_from (writes t 15 (x / 4096)) (m.takes (x / 4096)) (ap (writes t 15) (sym g.page) ∙ named t 15 i g.low g.access writing) q) h))
     ∙ shown_at t m 15 x i g

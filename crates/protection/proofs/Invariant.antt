@@ -1,7 +1,7 @@
 -- What a list of calls on a new engine keeps: no table names a page twice, a page that two jobs hold takes no writes, and only the eight jobs hold any.
 use Rattle.std.proofs.Common.{◌≡◌, ℕ, zero, suc, ◌<◌, ◌≤◌, Bool, true, false, cond, not, ◌&&◌, ◌||◌, eqb, ltb, ◌≢◌, List, [], ◌∷◌, get_or, replicate, is_some, Ok, Err, sym, refl, ap, ◌∙◌, subst, arith, ne_eqb, eqb-true}
 use borrow.Author.Tests.{eqb-false}
-use Rattle.std.proofs.lemmas.Bool.{ltb-false, and_from}
+use Rattle.std.proofs.lemmas.Bool.{ltb-false, and_from, false_from_ne_true, or_right}
 use Rattle.refusal.specs.declared.Ground.TheVariants.{AlreadyOpen, ReservedBits, PageNamedTwice, PageNotWritable, PageHeld}
 use Rattle.refusal.specs.declared.Refusal.{Refusal}
 use Rattle.refusal.specs.Judging.{Judgement, when, at, first_from}
@@ -11,7 +11,7 @@ use Rattle.space.specs.Cells.{Cells}
 use Rattle.table.specs.Tables.{Apart, entry_of, access_in}
 use Rattle.pages.specs.Held.{Table, page_of, shown, holds, back}
 use Rattle.pages.specs.Entries.{reserved_at, again_at, fixed_at}
-use Rattle.pages.proofs.Truths.{clash, not_so, by_test}
+use Rattle.pages.proofs.Truths.{clash, by_test}
 use Rattle.pages.proofs.Spaces.{access_low, holds_at}
 use Rattle.model.specs.declared.job.Job.{Job}
 use Rattle.model.specs.Jobs.{closed_job, opened_job, is_open}
@@ -24,6 +24,7 @@ use Rattle.protection.specs.Histories.{after}
 use Rattle.protection.proofs.Asides.{Aside, aside_sym, aside}
 use Rattle.protection.proofs.Lawful.{Law, act_law}
 use Rattle.refusal.proofs.Judgements.{passed, when_no, nowhere}
+use Rattle.model.proofs.Seats.{seats, replicated}
 
 pub upd_all : (f : ℕ → Job) (i : ℕ) (b : Job) (k : ℕ) (Q : Job → Type 0) → (k ≡ i → Q b) → (k ≢ i → Q (f k)) → Q (upd f i b k)
 upd_all f i b k Q h g = go (eqb k i) refl
@@ -54,13 +55,8 @@ inv_put w I j b t bs h = record {
 }
 
 -- A closed record has a table without access.
-shut_entry : (n i : ℕ) → ◌≡◌ {A = ℕ} (get_or (replicate n 0) i 0) 0
-shut_entry zero i = refl
-shut_entry (suc n) zero = refl
-shut_entry (suc n) (suc i) = shut_entry n i
-
 shut_access : (i : ℕ) → access_in (entry_of closed_job.table i) ≡ false
-shut_access i = let e : ◌≡◌ {A = ℕ} (get_or (replicate 15 0) i 0) 0 = shut_entry 15 i in grind arith
+shut_access i = let e : ◌≡◌ {A = ℕ} (get_or (replicate 15 0) i 0) 0 = replicated 0 15 i in grind arith
 
 fits_shut : (w : World) (j : ℕ) → Fits w j closed_job.table
 fits_shut w j = record {
@@ -114,10 +110,6 @@ open_says j t w p =
     }
 
 -- `any`, by one that passes.
-or_right : (a b : Bool) → b ≡ true → (a || b) ≡ true
-or_right true b e = refl
-or_right false b e = e
-
 any_at : (n : ℕ) (f : ℕ → Bool) (k : ℕ) → k < n → f k ≡ true → any n f ≡ true
 unfolding any
 any_at zero f k h e = absurd (omega arith)
@@ -131,7 +123,7 @@ any_at (suc n) f k h e = go (eqb k n) refl (λ l. any_at n f k l e)
 free_aside : (j : ℕ) (t : Table) (w : World) → Inv w → Opens j t w → (k : ℕ) → k ≢ j → Aside w.mem t (w.jobs k).table
 unfolding held_by
 free_aside j t w I o k ne i l a b e =
-    not_so (w.mem.takes (page_of t i)) (λ q.
+    false_from_ne_true (w.mem.takes (page_of t i)) (λ q.
     let held : held_by 8 w.jobs j (page_of t i) ≡ true =
     any_at 8 (λ n. not (eqb n j) && holds (w.jobs n).table (page_of t i)) k (I.low k l b)
     (and_from (not (eqb k j)) (holds (w.jobs k).table (page_of t i)) (ap not (ne_eqb k j ne)) (ap (holds (w.jobs k).table) e ∙ holds_at (w.jobs k).table l b)) in
@@ -171,19 +163,17 @@ call_leaves (asks j x) i w I ne =
     put_leaves w j i (act_of j x (w.jobs j) (space_at w j)).job (w.jobs j).table (act_of j x (w.jobs j) (space_at w j)).bytes ne (I.aside j i (λ q. ne (sym q)))
 
 -- A new engine has it.
-all_shut : (n k i : ℕ) → access_in (entry_of (get_or (replicate n closed_job) k no_job).table i) ≡ false
-all_shut zero k i = none i
+all_shut : (k i : ℕ) → access_in (entry_of (get_or (replicate 8 closed_job) k no_job).table i) ≡ false
+all_shut k i = seats (λ b. access_in (entry_of b.table i) ≡ false) (shut_access i) (none i) 8 k
   where
     none : (i : ℕ) → access_in (entry_of [] i) ≡ false
     none i = grind arith
-all_shut (suc n) zero i = shut_access i
-all_shut (suc n) (suc k) i = all_shut n k i
 
 pub inv_new : (m : Mem) → Inv (new_world m)
 inv_new m = record {
-  once = λ j i l h. clash (access_in (entry_of ((new_world m).jobs j).table i)) h.0 (all_shut 8 j i);
-  aside = λ i j ne n l a. clash (access_in (entry_of ((new_world m).jobs i).table n)) a (all_shut 8 i n);
-  low = λ j i a. clash (access_in (entry_of ((new_world m).jobs j).table i)) a (all_shut 8 j i);
+  once = λ j i l h. clash (access_in (entry_of ((new_world m).jobs j).table i)) h.0 (all_shut j i);
+  aside = λ i j ne n l a. clash (access_in (entry_of ((new_world m).jobs i).table n)) a (all_shut i n);
+  low = λ j i a. clash (access_in (entry_of ((new_world m).jobs j).table i)) a (all_shut j i);
 }
 
 pub inv_after : (cs : List Call) (w : World) → Inv w → Inv (after cs w)

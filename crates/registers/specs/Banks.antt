@@ -1,11 +1,12 @@
 -- The eight registers of a bank by name, its four pairs, the high byte first, and its flags.
-use Rattle.std.specs.Prelude.{ℕ, ◌+◌, ◌*◌, ◌/◌, ◌%◌, Bool}
+use Rattle.std.specs.Prelude.{ℕ, ◌+◌, ◌*◌, ◌/◌, ◌%◌, Bool, true, false}
 use Rattle.registers.specs.declared.bank.Register.{Register}
 use Rattle.registers.specs.declared.bank.Register.TheVariants.{A, B, C, D, E, H, L, X}
 use Rattle.registers.specs.declared.bank.Pair.{Pair}
 use Rattle.registers.specs.declared.bank.Pair.TheVariants.{XA, BC, DE, HL}
 use Rattle.registers.specs.declared.bank.Flag.{Flag}
 use Rattle.registers.specs.declared.bank.Flag.TheVariants.{Carry, Zero, Sign, Parity}
+use Rattle.registers.specs.declared.bank.Condition.{Condition}
 use Rattle.registers.specs.declared.bank.Flags.{Flags}
 use Rattle.registers.specs.declared.bank.Bank.{Bank}
 
@@ -52,3 +53,13 @@ with_flags k f = record { a = k.a; b = k.b; c = k.c; d = k.d; e = k.e; h = k.h; 
 
 abbrev pub with_carry : Bank → Bool → Bank
 with_carry k b = with_flags k (record { carry = b; zero = k.flags.zero; sign = k.flags.sign; parity = k.flags.parity })
+
+-- A condition holds if the flag is as it asks.
+abbrev pub as_wanted : Bool → Bool → Bool
+as_wanted true true = true
+as_wanted true false = false
+as_wanted false true = false
+as_wanted false false = true
+
+abbrev pub holds_of : Condition → Flags → Bool
+holds_of k f = as_wanted (flag_in f k.flag) k.set

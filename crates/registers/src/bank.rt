@@ -1,6 +1,6 @@
 // A bank of registers: bytes by name, pairs of them as addresses, and the flags.
 ghost use Rattle.std.specs.Prelude.{◌≡◌, ℕ, ◌+◌, ◌*◌, ◌/◌, ◌%◌};
-ghost use Rattle.registers.specs.Banks.{value_in, with_value, pair_in, with_pair, flag_in};
+ghost use Rattle.registers.specs.Banks.{value_in, with_value, pair_in, with_pair, flag_in, holds_of};
 
 #[derive(Clone, Copy)]
 pub enum Register {
@@ -29,6 +29,13 @@ pub enum Flag {
     Zero,
     Sign,
     Parity,
+}
+
+// What a conditional instruction asks of the flags: that one of them is set, or that it is clear.
+#[derive(Clone, Copy)]
+pub struct Condition {
+    pub flag: Flag,
+    pub set: bool,
 }
 
 #[derive(Clone, Copy, Default)]
@@ -62,6 +69,14 @@ impl Flags {
             Flag::Sign => self.sign,
             Flag::Parity => self.parity,
         }
+    }
+}
+
+impl Condition {
+    pub fn holds(self, flags: Flags) -> bool
+        ensures { result ≡ holds_of self flags }
+    {
+        flags.get(self.flag) == self.set
     }
 }
 

@@ -5,7 +5,7 @@ use Rattle.registers.specs.declared.bank.Flags.{Flags}
 use Rattle.registers.specs.declared.bank.Pair.TheVariants.{HL, DE}
 use Rattle.registers.specs.declared.bank.Register.{Register}
 use Rattle.registers.specs.declared.processor.Processor.{Processor}
-use Rattle.registers.specs.Banks.{value_in, pair_in, flag_in}
+use Rattle.registers.specs.Banks.{value_in, pair_in, holds_of}
 use Rattle.registers.specs.Processors.{bank_of, with_p}
 use Rattle.alu.specs.declared.Operation.{Operation}
 use Rattle.alu.specs.declared.Operation.TheVariants.{AddCarry, SubtractBorrow}
@@ -25,7 +25,7 @@ use Rattle.processor.specs.declared.effects.Carried.{Carried}
 use Rattle.processor.specs.declared.fetching.Fetched.{Fetched}
 use Rattle.processor.specs.declared.fetching.Operand.{Operand}
 use Rattle.processor.specs.Fetches.{fetch_of, operand_of}
-use Rattle.processor.specs.Effects.{Effect, on, plain, taken, called_to, returned, source_in, if_flag, read_into, wrote, operated_with, effect_of}
+use Rattle.processor.specs.Effects.{Effect, on, plain, taken, called_to, returned, source_in, read_into, wrote, operated_with, effect_of}
 use Rattle.processor.specs.Steps.{settled, carried_out, decoded, step_of}
 use Rattle.runs.specs.Runs.{Over, on_trap, on_answer, run_of}
 
@@ -78,11 +78,9 @@ module _ (P : Cells → Type 0) (store : (s : Cells) (a b : ℕ) → P s → P (
       let y : Worked = field_element_of o k s in
       next_kept y.answer f (field_from o f left) y.bank y.cells (cell_kept o k s h) (field_kept o f left y.bank y.cells)
 
-  flag_kept : (a b : Bool) (x y : Effect) → P x.cells → P y.cells → P (if_flag a b x y).cells
-  flag_kept true true x y f g = f
-  flag_kept true false x y f g = g
-  flag_kept false true x y f g = g
-  flag_kept false false x y f g = f
+  flag_kept : (a : Bool) (x y : Effect) → P x.cells → P y.cells → P (cond a x y).cells
+  flag_kept true x y f g = f
+  flag_kept false x y f g = g
 
   read_kept : (x : Result ℕ Fault) (r : Register) (c : Processor) (s : Cells) → P s → P (read_into x r c s).cells
   read_kept (Ok b) r c s h = h
@@ -105,11 +103,11 @@ module _ (P : Cells → Type 0) (store : (s : Cells) (a b : ℕ) → P s → P (
   effect_kept (i.Operate o from t) v c s h = operated_kept (source_in from s (bank_of c) v) o t c s h
   effect_kept (i.Shift t r) v c s h = h
   effect_kept i.Jump v c s h = h
-  effect_kept (i.JumpIf f w) v c s h = flag_kept (flag_in (bank_of c).flags f) w (on taken (with_p c v) s) (on plain c s) h h
+  effect_kept (i.JumpIf k) v c s h = flag_kept (holds_of k (bank_of c).flags) (on taken (with_p c v) s) (on plain c s) h h
   effect_kept i.Call v c s h = h
-  effect_kept (i.CallIf f w) v c s h = flag_kept (flag_in (bank_of c).flags f) w (on taken (called_to c v) s) (on plain c s) h h
+  effect_kept (i.CallIf k) v c s h = flag_kept (holds_of k (bank_of c).flags) (on taken (called_to c v) s) (on plain c s) h h
   effect_kept i.Return v c s h = h
-  effect_kept (i.ReturnIf f w) v c s h = flag_kept (flag_in (bank_of c).flags f) w (on taken (returned c) s) (on plain c s) h h
+  effect_kept (i.ReturnIf k) v c s h = flag_kept (holds_of k (bank_of c).flags) (on taken (returned c) s) (on plain c s) h h
   effect_kept (i.Push p) v c s h = h
   effect_kept i.PushImmediate v c s h = h
   effect_kept (i.Pop p) v c s h = h

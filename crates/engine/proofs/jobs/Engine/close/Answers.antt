@@ -1,24 +1,22 @@
-use Rattle.std.proofs.Common.{Err, Result, sym, ap, ◌∙◌}
-use Rattle.std.proofs.lemmas.Result.{err_from_is_err_and}
-use Rattle.refusal.specs.declared.Refusal.{Refusal}
+use Rattle.std.proofs.Common.{◌∙◌}
 use Rattle.model.specs.Jobs.{closed_job}
 use Rattle.model.specs.Calls.{closes, done}
 use Rattle.model.specs.Acts.{judge_close}
-use Rattle.model.specs.Worlds.{World, Done, world_of, jobs_of}
+use Rattle.model.specs.Worlds.{World, world_of, jobs_of}
 use Rattle.model.proofs.Settling.{refuses, accepts, settles_record}
 use Rattle.engine.specs.Answers.{done_answer}
-use Rattle.engine.proofs.Judged.{given, withheld, seated}
+use Rattle.engine.proofs.Judged.{given, withheld, seated, hands_on}
 use Rattle.engine.proofs.jobs.Engine.close.Goals as goal
 
 pub returns-in_err-idle_record : goal.returns-in_err-idle_record
 returns-in_err-idle_record c =
     let j = c.args.job in
     let b = jobs_of c.args.self.now.jobs j in
-    let p = err_from_is_err_and c.from_residual.result c.from_residual.ensures.1 in
     λ m.
     let w : World = world_of c.args.self.now.jobs m in
-    refuses j closes w c.in_err-idle_record.field-0.0 (withheld (judge_close j b) b _ c.in_err-idle_record.ensures)
-    ∙ ap {B = Done} (λ (r : Result (Unit {0}) Refusal). record { world = w; answer = done_answer r }) (sym (p.1 ∙ ap (λ (e : Refusal). Err e) p.2))
+    hands_on done_answer w _ _ _
+    (refuses j closes w c.in_err-idle_record.field-0.0 (withheld (judge_close j b) b _ c.in_err-idle_record.ensures))
+    c.from_residual.ensures.1
 
 pub vacate-requires : goal.vacate-requires
 vacate-requires c =

@@ -1,13 +1,11 @@
-use Rattle.std.proofs.Common.{Err, Result, sym, ap, ◌∙◌}
-use Rattle.std.proofs.lemmas.Result.{err_from_is_err_and}
-use Rattle.refusal.specs.declared.Refusal.{Refusal}
+use Rattle.std.proofs.Common.{ap, ◌∙◌}
 use Rattle.engine.specs.Answers.{done_answer}
 use Rattle.model.specs.declared.job.Job.{Job}
 use Rattle.model.specs.Calls.{loads}
 use Rattle.model.specs.Acts.{no_such_job, not_open, judge_open_job}
-use Rattle.model.specs.Worlds.{World, Done, world_of}
+use Rattle.model.specs.Worlds.{World, world_of}
 use Rattle.model.proofs.Settling.{refuses}
-use Rattle.engine.proofs.Judged.{given, withheld, stopped}
+use Rattle.engine.proofs.Judged.{given, withheld, stopped, hands_on}
 use Rattle.engine.proofs.Loaded.{load_settles}
 use Rattle.engine.proofs.jobs.Engine.load.Goals as goal
 
@@ -16,10 +14,10 @@ returns-in_err-record g c =
     let w : World = world_of c.args.self.now.jobs (g.M.Memory.mem c.args.memory.now) in
     let j = c.args.job in
     let b = w.jobs j in
-    let p = err_from_is_err_and c.from_residual.result c.from_residual.ensures.1 in
-    refuses j (loads c.args.at c.args.bytes.now) w c.in_err-record.field-0.0
-    (stopped (no_such_job j) (not_open b) _ _ (withheld (judge_open_job j b) b _ c.in_err-record.ensures))
-    ∙ ap {B = Done} (λ (r : Result (Unit {0}) Refusal). record { world = w; answer = done_answer r }) (sym (p.1 ∙ ap (λ (e : Refusal). Err e) p.2))
+    hands_on done_answer w _ _ _
+    (refuses j (loads c.args.at c.args.bytes.now) w c.in_err-record.field-0.0
+    (stopped (no_such_job j) (not_open b) _ _ (withheld (judge_open_job j b) b _ c.in_err-record.ensures)))
+    c.from_residual.ensures.1
 
 pub returns : goal.returns
 returns g c =

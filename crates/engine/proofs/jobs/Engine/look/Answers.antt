@@ -1,13 +1,12 @@
-use Rattle.std.proofs.Common.{length, Err, Result, sym, refl, ap, ◌∙◌}
+use Rattle.std.proofs.Common.{length, refl, ap}
 use Rattle.std.proofs.lemmas.Result.{err_from_is_err_and}
-use Rattle.refusal.specs.declared.Refusal.{Refusal}
 use Rattle.model.specs.declared.job.Job.{Job}
 use Rattle.model.specs.Calls.{looks}
 use Rattle.model.specs.Acts.{no_such_job, not_open, judge_open_job}
-use Rattle.model.specs.Worlds.{World, Done, world_of}
+use Rattle.model.specs.Worlds.{World, world_of}
 use Rattle.model.proofs.Settling.{refuses}
 use Rattle.engine.specs.Answers.{look_answer}
-use Rattle.engine.proofs.Judged.{given, withheld, stopped}
+use Rattle.engine.proofs.Judged.{given, withheld, stopped, hands_on}
 use Rattle.engine.proofs.Looked.{look_settles, look_leaves}
 use Rattle.engine.proofs.jobs.Engine.look.Goals as goal
 
@@ -19,9 +18,10 @@ returns-in_err-record g c =
     let p = err_from_is_err_and c.from_residual.result c.from_residual.ensures.1 in
     record {
       world =
-          refuses j (looks c.args.at (length c.args.out.now)) w c.in_err-record.field-0.0
-          (stopped (no_such_job j) (not_open b) _ _ (withheld (judge_open_job j b) b _ c.in_err-record.ensures))
-          ∙ ap {B = Done} (λ (r : Result (Unit {0}) Refusal). record { world = w; answer = look_answer r c.args.out.now }) (sym (p.1 ∙ ap (λ (e : Refusal). Err e) p.2));
+          hands_on (λ r. look_answer r c.args.out.now) w _ _ _
+          (refuses j (looks c.args.at (length c.args.out.now)) w c.in_err-record.field-0.0
+          (stopped (no_such_job j) (not_open b) _ _ (withheld (judge_open_job j b) b _ c.in_err-record.ensures)))
+          c.from_residual.ensures.1;
       untouched = rw p.1 refl;
     }
 

@@ -1,14 +1,12 @@
-use Rattle.std.proofs.Common.{◌≡◌, Err, Result, sym, ap, ◌∙◌, rules}
-use Rattle.std.proofs.lemmas.Result.{err_from_is_err_and}
+use Rattle.std.proofs.Common.{◌≡◌, ap, ◌∙◌, rules}
 use Rattle.model.specs.declared.job.Job.{Job}
 use Rattle.model.specs.Jobs.{replied_job}
 use Rattle.model.specs.Calls.{replies, done}
 use Rattle.model.specs.Acts.{judge_receipt}
-use Rattle.model.specs.Worlds.{World, Done, world_of, jobs_of, upd}
+use Rattle.model.specs.Worlds.{World, world_of, jobs_of, upd}
 use Rattle.model.proofs.Settling.{refuses, accepts, settles_record}
-use Rattle.engine.specs.declared.receipt.Returned.{Returned}
 use Rattle.engine.specs.Answers.{returned_answer}
-use Rattle.engine.proofs.Judged.{given, withheld}
+use Rattle.engine.proofs.Judged.{given, withheld, hands_on}
 use Rattle.engine.proofs.jobs.Engine.reply.Goals as goal
 
 pub returns-in_err-job-clause-world : goal.returns-in_err-job-clause-world
@@ -16,11 +14,11 @@ returns-in_err-job-clause-world c =
     let j = c.args.receipt.job in
     let n = c.args.receipt.number in
     let b = jobs_of c.args.self.now.jobs j in
-    let p = err_from_is_err_and c.from_residual.result c.from_residual.ensures.1 in
     λ m.
     let w : World = world_of c.args.self.now.jobs m in
-    refuses j (replies n c.args.registers) w c.in_err-job.field-0.0.refusal (withheld (judge_receipt j n b) b _ c.in_err-job.ensures.judged)
-    ∙ ap {B = Done} (λ (r : Result (Unit {0}) Returned). record { world = w; answer = returned_answer r }) (sym (p.1 ∙ ap (λ (e : Returned). Err e) p.2))
+    hands_on returned_answer w _ _ _
+    (refuses j (replies n c.args.registers) w c.in_err-job.field-0.0.refusal (withheld (judge_receipt j n b) b _ c.in_err-job.ensures.judged))
+    c.from_residual.ensures.1
 
 pub returns-clause-world : goal.returns-clause-world
 returns-clause-world c =

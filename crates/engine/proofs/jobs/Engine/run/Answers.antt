@@ -1,26 +1,23 @@
-use Rattle.std.proofs.Common.{◌≡◌, Err, Result, sym, ap, ◌∙◌}
-use Rattle.std.proofs.lemmas.Result.{err_from_is_err_and}
-use Rattle.refusal.specs.declared.Refusal.{Refusal}
-use Rattle.engine.specs.declared.receipt.Outcome.{Outcome}
+use Rattle.std.proofs.Common.{◌≡◌, ap, ◌∙◌}
 use Rattle.engine.specs.Answers.{ran_answer}
 use Rattle.memory.specs.Memories.{Mem}
 use Rattle.model.specs.declared.job.Job.{Job}
 use Rattle.model.specs.Jobs.{ran_job}
 use Rattle.model.specs.Calls.{runs}
 use Rattle.model.specs.Acts.{judge_run, owed_by}
-use Rattle.model.specs.Worlds.{World, Done, world_of, jobs_of, upd}
+use Rattle.model.specs.Worlds.{World, world_of, jobs_of, upd}
 use Rattle.model.proofs.Settling.{refuses, accepts}
 use Rattle.model.proofs.Landings.{run_settles, run_at, frame_at}
-use Rattle.engine.proofs.Judged.{given, withheld}
+use Rattle.engine.proofs.Judged.{given, withheld, hands_on}
 use Rattle.engine.proofs.jobs.Engine.run.Goals as goal
 
 pub returns-in_err-record : goal.returns-in_err-record
 returns-in_err-record g c =
     let w : World = world_of c.args.self.now.jobs (g.M.Memory.mem c.args.memory.now) in
     let j = c.args.job in
-    let p = err_from_is_err_and c.from_residual.result c.from_residual.ensures.1 in
-    refuses j (runs c.args.limit) w c.in_err-record.field-0.0 (withheld (judge_run j c.args.limit (w.jobs j)) (w.jobs j) _ c.in_err-record.ensures)
-    ∙ ap {B = Done} (λ (r : Result Outcome Refusal). record { world = w; answer = ran_answer r }) (sym (p.1 ∙ ap (λ (e : Refusal). Err e) p.2))
+    hands_on ran_answer w _ _ _
+    (refuses j (runs c.args.limit) w c.in_err-record.field-0.0 (withheld (judge_run j c.args.limit (w.jobs j)) (w.jobs j) _ c.in_err-record.ensures))
+    c.from_residual.ensures.1
 
 pub returns : goal.returns
 returns g c =

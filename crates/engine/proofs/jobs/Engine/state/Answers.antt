@@ -1,6 +1,5 @@
-use Rattle.std.proofs.Common.{◌≡◌, Err, Result, sym, refl, ap, ◌∙◌}
+use Rattle.std.proofs.Common.{sym, refl, ap, ◌∙◌}
 use Rattle.std.proofs.lemmas.Result.{err_from_is_err_and}
-use Rattle.refusal.specs.declared.Refusal.{Refusal}
 use Rattle.engine.specs.Answers.{state_answer}
 use Rattle.model.specs.declared.job.Job.{Job}
 use Rattle.model.specs.declared.job.State.{State}
@@ -9,7 +8,7 @@ use Rattle.model.specs.Calls.{states, told}
 use Rattle.model.specs.Acts.{judge_open_job}
 use Rattle.model.specs.Worlds.{World, Done, world_of, jobs_of}
 use Rattle.model.proofs.Settling.{refuses, accepts, settles_answer}
-use Rattle.engine.proofs.Judged.{given, withheld}
+use Rattle.engine.proofs.Judged.{given, withheld, hands_on}
 use Rattle.engine.proofs.jobs.Engine.state.Goals as goal
 
 pub returns-in_err-record : goal.returns-in_err-record
@@ -17,12 +16,12 @@ returns-in_err-record c =
     let j = c.args.job in
     let b : Job = jobs_of c.args.self.now.jobs j in
     let p = err_from_is_err_and c.from_residual.result c.from_residual.ensures.1 in
-    let was : c.from_residual.result ≡ Err c.in_err-record.field-0.0 = p.1 ∙ ap (λ (e : Refusal). Err e) p.2 in
     record {
       world = λ m.
           let w : World = world_of c.args.self.now.jobs m in
-          refuses j states w c.in_err-record.field-0.0 (withheld (judge_open_job j b) b _ c.in_err-record.ensures)
-          ∙ ap {B = Done} (λ (r : Result (Unit {0}) Refusal). record { world = w; answer = state_answer r c.args.out.now }) (sym was);
+          hands_on (λ r. state_answer r c.args.out.now) w _ _ _
+          (refuses j states w c.in_err-record.field-0.0 (withheld (judge_open_job j b) b _ c.in_err-record.ensures))
+          c.from_residual.ensures.1;
       untouched = rw p.1 refl;
     }
 
