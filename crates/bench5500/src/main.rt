@@ -63,6 +63,48 @@ fn hundredths(nanos: u128, count: u64) -> u128 {
     nanos.saturating_mul(100) / u128::from(count.max(1))
 }
 
+// A desk at work over a memory that is lent to it.
+struct Bench<'m, M> {
+    desk: Desk,
+    memory: &'m mut M,
+}
+
+impl<'m, M: Memory> Bench<'m, M> {
+    fn over(memory: &'m mut M) -> Bench<'m, M> {
+        Bench {
+            desk: Desk::new(),
+            memory,
+        }
+    }
+
+    // Opens so many jobs with the program.
+    fn start(&mut self, jobs: u8) -> Result<(), Refusal> {
+        for job in 0..jobs {
+            self.desk.open(self.memory, job, table_of(job), 0)?;
+            self.desk.load(self.memory, job, 0, &PROGRAM)?;
+        }
+        Ok(())
+    }
+
+    // Runs each in turn so many times, a turn being 65,535 steps. Says how many steps that were.
+    fn run(&mut self, jobs: u8, turns: u32) -> Result<u64, Refusal> {
+        let mut steps: u64 = 0;
+        for _ in 0..turns {
+            for job in 0..jobs {
+                let ran = self.desk.run(self.memory, job, 65535)?;
+                steps = steps.wrapping_add(u64::from(ran.steps));
+            }
+        }
+        Ok(steps)
+    }
+
+    // A desk cannot be dropped.
+    fn end(self) {
+        let Bench { desk, memory: _ } = self;
+        desk.finish();
+    }
+}
+
 // A measurement: so many jobs with the program, which run in turn so many times.
 struct Measurement<'a> {
     name: &'a str,
@@ -71,25 +113,6 @@ struct Measurement<'a> {
 }
 
 impl Measurement<'_> {
-    fn start<M: Memory>(&self, desk: &mut Desk, memory: &mut M) -> Result<(), Refusal> {
-        for job in 0..self.jobs {
-            desk.open(memory, job, table_of(job), 0)?;
-            desk.load(memory, job, 0, &PROGRAM)?;
-        }
-        Ok(())
-    }
-
-    // Each turn of a job is 65,535 steps. Says how many steps that were.
-    fn run<M: Memory>(&self, desk: &mut Desk, memory: &mut M) -> Result<u64, Refusal> {
-        let mut steps: u64 = 0;
-        for _ in 0..self.turns {
-            for job in 0..self.jobs {
-                steps = steps.wrapping_add(u64::from(desk.run(memory, job, 65535)?.steps));
-            }
-        }
-        Ok(steps)
-    }
-
     // Prints the steps and the memory's hash, and what one step took.
     fn tell(&self, rt: &HostRuntime, steps: u64, sum: u64, nanos: u128) -> anyhow::Result<()> {
         let name = self.name;
@@ -105,29 +128,24 @@ impl Measurement<'_> {
     }
 
     // Starts and runs the jobs, and takes the time of the runs alone.
-    fn measure<M: Memory>(
-        &self,
-        rt: &HostRuntime,
-        desk: &mut Desk,
-        memory: &mut M,
-    ) -> anyhow::Result<()> {
-        if let Err(refusal) = self.start(desk, memory) {
+    fn measure<M: Memory>(&self, rt: &HostRuntime, bench: &mut Bench<M>) -> anyhow::Result<()> {
+        if let Err(refusal) = bench.start(self.jobs) {
             return self.tell_refused(rt, refusal);
         }
         let begun = Instant::now(rt)?;
-        let ran = self.run(desk, memory);
+        let ran = bench.run(self.jobs, self.turns);
         let nanos = begun.elapsed(rt)?.as_nanos();
         match ran {
-            Ok(steps) => self.tell(rt, steps, hash(memory), nanos),
+            Ok(steps) => self.tell(rt, steps, hash(bench.memory), nanos),
             Err(refusal) => self.tell_refused(rt, refusal),
         }
     }
 
     // The measurement over a memory, at a desk of its own.
     fn over<M: Memory>(&self, rt: &HostRuntime, memory: &mut M) -> anyhow::Result<()> {
-        let mut desk = Desk::new();
-        let result = self.measure(rt, &mut desk, memory);
-        desk.finish();
+        let mut bench = Bench::over(memory);
+        let result = self.measure(rt, &mut bench);
+        bench.end();
         result
     }
 }

@@ -29,6 +29,7 @@ const WRITES_TARIFF: [u8; 5] = [0o056, 0o020, 0o066, 0, 0o370];
 
 const READS_OUTSIDE: [u8; 5] = [0o056, 0o040, 0o066, 0, 0o307];
 
+// A board with the tariff, and a host, as the program freight has them, on which no crate can stand.
 fn tariff_board<'a>(bytes: &'a mut [u8]) -> Result<SingleBoard<'a>, Refusal> {
     let five = Page::try_from(5)?;
     let filling = Filling::new();
@@ -49,11 +50,11 @@ impl Host<'_, '_> {
         self.desk.load(self.board, job, 0, code)
     }
 
-    // Runs a job, and tells the stop and the job's state.
+    // Runs a job, and tells the stop, by its number, and the job's state. The tests from the manual have two lines like these, since neither crate
+    // stands on the other.
     fn watch(&mut self, job: u8, limit: u16) -> Result<(u8, State), Refusal> {
         let ran = self.desk.run(self.board, job, limit)?;
-        let mut state = State::blank();
-        self.desk.state(job, &mut state)?;
+        let state = self.desk.state_of(job)?;
         Ok((ran.stop.number(), state))
     }
 }

@@ -1,8 +1,8 @@
 // Receipts that are shown to an engine which did not give them: judged by the same grounds as its own.
-ghost use Rattle.std.specs.Prelude.{◌≡◌, Ok};
-ghost use Rattle.model.specs.Acts.{judge_receipt};
+ghost use Rattle.std.specs.Prelude.{Some, IfOk};
 ghost use Rattle.model.specs.Worlds.{jobs_of};
-ghost use Rattle.beside.specs.Fitting.{Fitting};
+ghost use Rattle.engine.specs.Answers.{owed_of};
+ghost use Rattle.engine.specs.Receipts.{Acceptable};
 
 use super::told;
 use boards::single::Filling;
@@ -10,7 +10,7 @@ use engine::jobs::Engine;
 use engine::receipt::{Outcome, Receipt, Returned};
 use memory::Memory;
 use memory::sets::PageSet;
-use model::job::{Registers, State};
+use model::job::Registers;
 use refusal::Refusal;
 use std::test::Fail;
 
@@ -29,19 +29,20 @@ const REGISTERS: Registers = Registers {
     x: 8,
 };
 
-// Abandons a receipt that fits, which is accepted.
+// Abandons a receipt that fits, which is accepted. Each crate that ends a receipt so has these lines: this requires that it fits, and no public
+// function of a library requires anything.
 fn abandon_fitting(engine: &mut Engine, owed: Receipt)
-    requires { judge_receipt owed.job owed.number (jobs_of engine.old.jobs owed.job) ≡ Ok tt }
+    requires { Acceptable (owed_of (Some owed)) (jobs_of engine.old.jobs) }
 {
     engine.abandon(owed).unwrap();
 }
 
 // Gives each engine the receipt of the other, if the two say the same. Whether they did.
 fn exchange(one: &mut Engine, other: &mut Engine, first: Receipt, second: Receipt) -> bool
-    requires its { judge_receipt first.job first.number (jobs_of one.old.jobs first.job) ≡ Ok tt }
-    requires theirs { judge_receipt second.job second.number (jobs_of other.old.jobs second.job) ≡ Ok tt }
+    requires its { Acceptable (owed_of (Some first)) (jobs_of one.old.jobs) }
+    requires theirs { Acceptable (owed_of (Some second)) (jobs_of other.old.jobs) }
 {
-    if first.job() == second.job() && first.number() == second.number() {
+    if first == second {
         abandon_fitting(other, first);
         abandon_fitting(one, second);
         return true;
@@ -53,7 +54,7 @@ fn exchange(one: &mut Engine, other: &mut Engine, first: Receipt, second: Receip
 
 // Runs job 0, and gives the receipt if it stops at a system call.
 fn run_to_call<M: Memory>(engine: &mut Engine, memory: &mut M) -> Result<Option<Receipt>, Refusal>
-    ensures { Fitting result (jobs_of engine.new.jobs) }
+    ensures { IfOk result (λ o. Acceptable (owed_of o) (jobs_of engine.new.jobs)) }
 {
     let Outcome { run: _, receipt } = engine.run(memory, 0, 9)?;
     Ok(receipt)
@@ -68,6 +69,7 @@ fn exchange_calls<M: Memory>(
     let Some(first) = run_to_call(one, memory)? else {
         return Ok(false);
     };
+    // a match and no `?`: the first receipt has to be ended here
     match run_to_call(other, memory) {
         Ok(Some(second)) => Ok(exchange(one, other, first, second)),
         Ok(None) => {
@@ -90,13 +92,11 @@ fn offer<M: Memory>(
     let Some(owed) = run_to_call(engine, memory)? else {
         return Ok(None);
     };
-    match other.reply(owed, REGISTERS) {
-        Ok(()) => Ok(None),
-        Err(Returned { refusal, receipt }) => {
-            abandon_fitting(engine, receipt);
-            Ok(Some(refusal))
-        }
-    }
+    let refused = other.reply(owed, REGISTERS).err();
+    Ok(refused.map(|Returned { refusal, receipt }| {
+        abandon_fitting(engine, receipt);
+        refusal
+    }))
 }
 
 fn start<M: Memory>(engine: &mut Engine, memory: &mut M, table: [u8; 15]) -> Result<(), Refusal> {
@@ -106,8 +106,7 @@ fn start<M: Memory>(engine: &mut Engine, memory: &mut M, table: [u8; 15]) -> Res
 
 // Whether job 0 is open.
 fn is_open(engine: &Engine) -> bool {
-    let mut state = State::blank();
-    engine.state(0, &mut state).is_ok()
+    engine.state_of(0).is_ok()
 }
 
 // Receipts with the same job and number serve at either engine, and close the job there.

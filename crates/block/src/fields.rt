@@ -30,7 +30,7 @@ pub fn width_of(c: u8) -> u8
     if c % 16 == 0 { 16 } else { c % 16 }
 }
 
-// The elements before a fault stand, with the flags from before the instruction.
+// The elements before a fault stand, with the flags from before the instruction. Tried as `inspect_err` that puts the flags back: what the bank is where the closure is not called stays open.
 pub fn run_field<S: Space>(op: Operation, bank: &mut Bank, space: &mut S) -> Result<(), Fault>
     ensures all { after result bank.new (S.cells space.new) ≡ field_of op bank.old (S.cells space.old) }
     ensures kept { S.frame space.new ≡ S.frame space.old }

@@ -3,5 +3,6 @@
 
 pub mod board;
 mod fills;
+mod shown;
 pub mod single;
 pub mod twin;

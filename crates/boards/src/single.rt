@@ -13,6 +13,7 @@ pub type SingleBoard<'a> = board::Board<'a, 'a, 16>;
 
 impl board::Sealed<16> {
     // The buffer as a memory. On a buffer of another length it shows zeros and takes no writes.
+    #[tactic(auto, using(crate::proofs::Meanings::single_shows))]
     pub fn board<'a>(self, buffer: &'a mut [u8]) -> SingleBoard<'a>
         ensures bytes { result.lower.now ≡ buffer.old }
         ensures empty { result.upper.now ≡ [] }

@@ -13,6 +13,7 @@ pub type TwinBoard<'a, 'b> = board::Board<'a, 'b, 8>;
 
 impl board::Sealed<8> {
     // The buffers as a memory. If either has another length it shows zeros and takes no writes.
+    #[tactic(auto, using(crate::proofs::Meanings::twin_shows))]
     pub fn board<'a, 'b>(self, lower: &'a mut [u8], upper: &'b [u8]) -> TwinBoard<'a, 'b>
         ensures writing { result.lower.now ≡ lower.old }
         ensures reading { result.upper.now ≡ upper.now }

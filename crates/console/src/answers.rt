@@ -83,7 +83,21 @@ impl From<NotHeld> for Denial {
     }
 }
 
-// Functions and no `Display`, which would be no plainer: states, banks and lists are not this crate's, and would be wrapped to be printed.
+// Items, each behind a space.
+#[derive(Clone, Copy)]
+struct Spaced<'a, T>(&'a [T]);
+
+impl<T: fmt::Display> fmt::Display for Spaced<'_, T> {
+    fn fmt<W: fmt::Write>(&self, f: &mut fmt::Formatter<W>) -> fmt::Result {
+        for item in self.0 {
+            write!(f, " {item}")?;
+        }
+        Ok(())
+    }
+}
+
+// A bank and a state by functions and no `Display`, which would be no plainer: both types are of other crates, and would be wrapped to be
+// printed.
 fn write_bank<W: fmt::Write>(bank: &Bank, f: &mut fmt::Formatter<W>) -> fmt::Result {
     let Bank {
         a,
@@ -96,17 +110,15 @@ fn write_bank<W: fmt::Write>(bank: &Bank, f: &mut fmt::Formatter<W>) -> fmt::Res
         x,
         flags,
     } = *bank;
-    write!(f, " {a} {b} {c} {d} {e} {h} {l} {x}")?;
     let Flags {
         carry,
         zero,
         sign,
         parity,
     } = flags;
-    for flag in [carry, zero, sign, parity] {
-        write!(f, " {}", u8::from(flag))?;
-    }
-    Ok(())
+    let bits = [carry, zero, sign, parity].map(u8::from);
+    let flags = Spaced(&bits);
+    write!(f, " {a} {b} {c} {d} {e} {h} {l} {x}{flags}")
 }
 
 fn write_state<W: fmt::Write>(state: &State, f: &mut fmt::Formatter<W>) -> fmt::Result {
@@ -114,29 +126,20 @@ fn write_state<W: fmt::Write>(state: &State, f: &mut fmt::Formatter<W>) -> fmt::
     let mode = state.processor.mode;
     let p = state.processor.p;
     let interrupts = u8::from(state.processor.interrupts);
-    write!(f, "ok {status} {mode} p {p} int {interrupts} alpha")?;
+    write!(f, " {status} {mode} p {p} int {interrupts} alpha")?;
     write_bank(&state.processor.alpha, f)?;
     write!(f, " beta")?;
     write_bank(&state.processor.beta, f)?;
-    write!(f, " top {} stack", state.processor.stack.top)?;
-    for entry in state.processor.stack.entries {
-        write!(f, " {entry}")?;
-    }
+    let top = state.processor.stack.top;
+    let entries = Spaced(&state.processor.stack.entries);
     let State {
         steps,
         time,
         calls,
         ..
     } = state;
+    write!(f, " top {top} stack{entries}")?;
     write!(f, " steps {steps} time {time} calls {calls}")
-}
-
-fn write_bytes<W: fmt::Write>(bytes: &[u8], f: &mut fmt::Formatter<W>) -> fmt::Result {
-    write!(f, "ok")?;
-    for byte in bytes {
-        write!(f, " {byte}")?;
-    }
-    Ok(())
 }
 
 // As `stop 3 steps 12 time 20000 receipt 0 1`.
@@ -164,27 +167,21 @@ impl fmt::Display for Placed {
     }
 }
 
-fn write_image<W: fmt::Write>(image: &Read, f: &mut fmt::Formatter<W>) -> fmt::Result {
-    write!(f, "ok table")?;
-    for entry in image.table {
-        write!(f, " {entry}")?;
-    }
-    write!(f, " start {} blocks", image.start)?;
-    for block in &image.blocks {
-        write!(f, " {block}")?;
-    }
-    Ok(())
-}
-
+// `ok`, and behind it what the command gives.
 impl fmt::Display for Answer {
     fn fmt<W: fmt::Write>(&self, f: &mut fmt::Formatter<W>) -> fmt::Result {
+        write!(f, "ok")?;
         match self {
-            Answer::Done => write!(f, "ok"),
-            Answer::Ran(finished) => write!(f, "ok {finished}"),
-            Answer::Saw(bytes) => write_bytes(bytes, f),
+            Answer::Done => Ok(()),
+            Answer::Ran(finished) => write!(f, " {finished}"),
+            Answer::Saw(bytes) => write!(f, "{}", Spaced(bytes.as_slice())),
             Answer::Told(state) => write_state(state, f),
-            Answer::Number(number) => write!(f, "ok {number}"),
-            Answer::Image(image) => write_image(image, f),
+            Answer::Number(number) => write!(f, " {number}"),
+            Answer::Image(image) => {
+                let table = Spaced(&image.table);
+                let blocks = Spaced(image.blocks.as_slice());
+                write!(f, " table{table} start {} blocks{blocks}", image.start)
+            }
         }
     }
 }

@@ -1,4 +1,4 @@
-// The calls of a script, made at the desk.
+// The calls of a script, made at the desk. The desk and the memory stay two parameters, since the memory is lent at each call.
 ghost use Rattle.std.specs.Prelude.{◌≡◌, ℕ, vec_len};
 ghost use Rattle.memory.specs.Memories.{Mem};
 ghost use Rattle.model.specs.Calls.{opens, asks, loads, runs as asks_run, looks, states, closes};
@@ -8,7 +8,6 @@ ghost use Rattle.console.specs.Answers.{says, Answered};
 use crate::answers::{Answer, Denial, Finished};
 use desk::desk::Desk;
 use memory::Memory;
-use model::job::State;
 use script::commands::Call;
 
 fn run<M: Memory>(desk: &mut Desk, memory: &mut M, job: u8, limit: u16) -> Result<Answer, Denial>
@@ -38,9 +37,7 @@ fn look<M: Memory>(
 fn state(desk: &Desk, job: u8) -> Result<Answer, Denial>
     ensures { (m : Mem) → does (asks job states) (world_of desk.now.engine.jobs m) ≡ record { world = world_of desk.now.engine.jobs m; answer = says result } }
 {
-    let mut state = State::blank();
-    desk.state(job, &mut state)?;
-    Ok(Answer::Told(state))
+    Ok(Answer::Told(desk.state_of(job)?))
 }
 
 // Makes the call, and answers as the model says.

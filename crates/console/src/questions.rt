@@ -68,7 +68,7 @@ pub fn answer_question<M: Memory>(
 {
     Ok(match question {
         Question::Read { at } => Answer::Number(u64::from(memory.read(at))),
-        Question::Takes { page } => return takes(memory, page),
+        Question::Takes { page } => takes(memory, page)?,
         Question::Hash => Answer::Number(hash(memory)),
         Question::Length { code } => Answer::Number(u64::from(length_of(code))),
         Question::Image { bytes } => Answer::Image(image_of(bytes.as_slice(), heap)?),

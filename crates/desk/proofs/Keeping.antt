@@ -1,33 +1,31 @@
 -- What each call of the engine does to what is owed.
-use Rattle.std.proofs.Common.{◌≡◌, ℕ, ◌<◌, Bool, true, false, cond, not, eqb, List, length, get_or, set, replicate, Some, None, Ok, Err, Option, Result, IsOk, sym, refl, ap, ◌∙◌, subst, ap₂, arith, eq-eqb, eqb-true}
+use Rattle.std.proofs.Common.{◌≡◌, ℕ, ◌<◌, Bool, true, false, cond, not, eqb, List, get_or, set, replicate, Some, None, Ok, Err, Option, Result, IsOk, sym, refl, ap, ◌∙◌, subst, ap₂, arith, eq-eqb, eqb-true}
 use Rattle.refusal.specs.declared.Ground.TheVariants.{JobWaiting, AlreadyOpen}
 use Rattle.refusal.specs.declared.Refusal.{Refusal}
 use Rattle.refusal.specs.Judging.{Judgement, when}
-use Rattle.stop.specs.declared.Trap.{Trap}
-use Rattle.stop.specs.declared.Trap.TheVariants.{Halt, SystemCall, Breakpoint}
 use Rattle.stop.specs.declared.Stop.{Stop}
-use Rattle.stop.specs.declared.Stop.TheVariants.{Limit, Trapped, Faulted}
+use Rattle.memory.specs.Memories.{Mem}
 use Rattle.runs.specs.declared.Ran.{Ran}
-use Rattle.runs.specs.Runs.{Over, run_of}
 use Rattle.pages.specs.Held.{Table}
 use Rattle.std.proofs.lemmas.Bool.{and_from}
 use Rattle.model.specs.declared.job.Job.{Job}
 use Rattle.model.specs.declared.job.Status.{Status}
 use Rattle.model.specs.declared.job.Status.TheVariants.{Closed, Ready, Waiting, Ended}
-use Rattle.model.specs.Jobs.{closed_job, opened_job, is_open, is_waiting, status_after, ran_job}
-use Rattle.model.specs.Calls.{opens, asks, Ask, runs, abandons, closes, Owed, Answer, refused, done, ran}
-use Rattle.model.specs.Acts.{no_such_job, not_open, waits, owed_by, ran_left, judge_ask, judge_run, judge_close, judge_receipt, effect_of}
-use Rattle.model.specs.Worlds.{World, Done, jobs_of, space_at, upd, settle, judge_open, unless_open, does}
-use Rattle.model.proofs.Settling.{upd_same, refuses, accepts}
+use Rattle.model.specs.Jobs.{closed_job, opened_job, is_open, is_waiting, status_after}
+use Rattle.model.specs.Calls.{opens, asks, Ask, runs, abandons, closes, Answer, refused, done}
+use Rattle.model.specs.Acts.{no_such_job, not_open, waits, owed_by, judge_ask, judge_run, judge_close, judge_receipt, effect_of}
+use Rattle.model.specs.Worlds.{World, Done, jobs_of, world_of, space_at, upd, judge_open, unless_open, does}
+use Rattle.model.proofs.Settling.{refuses, accepts}
 use Rattle.engine.specs.declared.receipt.Receipt.{Receipt}
 use Rattle.engine.specs.declared.receipt.Returned.{Returned}
 use Rattle.engine.specs.Answers.{owed_of, returned_answer}
 use Rattle.refusal.proofs.Judgements.{passed, when_no}
-use Rattle.engine.proofs.Judged.{seated}
+use Rattle.engine.proofs.Receipts.{Waits, RanSays, owed_waits, nothing_owed, receipt_ends}
+use Rattle.desk.specs.declared.desk.Desk.{Desk}
 use Rattle.desk.specs.Owing.{owed_to, released}
 use Rattle.desk.specs.Held.{fitting}
-use Rattle.desk.proofs.Owing.{Waits, Taken, Owes, held_waits, accepted, taken, refused_receipt, idle_kept, all_kept}
-use Rattle.model.proofs.Answers.{refused_done, refused_ran}
+use Rattle.desk.proofs.Owing.{Taken, Owes, taken, refused_receipt, idle_kept, all_kept}
+use Rattle.model.proofs.Answers.{no_mem, refused_ran}
 use Rattle.model.proofs.Seats.{seats, replicated}
 
 shut_idle : (s : Status) → is_open s ≡ false → is_waiting s ≡ false
@@ -88,108 +86,58 @@ new_keeps f rs ef er k =
     subst (λ (x : Option Receipt). owed_to k (f k) x ≡ true) (sym (ap (λ (l : List (Option Receipt)). get_or l k None) er ∙ replicated None 8 k))
     (ap not (ap (λ (g : ℕ → Job). is_waiting (g k).status) ef ∙ seats (λ b. is_waiting b.status ≡ false) refl refl 8 k))
 
-job_in : Option Owed → ℕ
-job_in None = 0
-job_in (Some o) = o.job
-
-call_in : Option Owed → ℕ
-call_in None = 0
-call_in (Some o) = o.number
-
 -- A stop makes the job wait exactly where something is owed.
-by_trap_lem : (j : ℕ) (b : Job) (e : Trap) (x : Option Receipt) → b.status ≡ status_after (Trapped e) → owed_of x ≡ owed_by (Trapped e) j b.calls → owed_to j b x ≡ true
-unfolding job_in call_in
-by_trap_lem j b Halt None s p = ap (λ (u : Status). not (is_waiting u)) s
-by_trap_lem j b Halt (Some r) s p = absurd (let z : ◌≡◌ {A = ℕ} 0 1 = cc in omega arith)
-by_trap_lem j b SystemCall None s p = absurd (let z : ◌≡◌ {A = ℕ} 0 1 = cc in omega arith)
-by_trap_lem j b SystemCall (Some r) s p =
-    let job : r.job ≡ j = ap job_in p in
-    let number : r.number ≡ b.calls = ap call_in p in
-    and_from (is_waiting b.status) _ (ap is_waiting s) (and_from (eqb r.job j) _ (eq-eqb r.job j job) (eq-eqb r.number b.calls number))
-by_trap_lem j b Breakpoint None s p = ap (λ (u : Status). not (is_waiting u)) s
-by_trap_lem j b Breakpoint (Some r) s p = absurd (let z : ◌≡◌ {A = ℕ} 0 1 = cc in omega arith)
-
 by_stop : (j : ℕ) (b : Job) (e : Stop) (x : Option Receipt) → b.status ≡ status_after e → owed_of x ≡ owed_by e j b.calls → owed_to j b x ≡ true
-by_stop j b Limit None s p = ap (λ (u : Status). not (is_waiting u)) s
-by_stop j b Limit (Some r) s p = absurd (let z : ◌≡◌ {A = ℕ} 0 1 = cc in omega arith)
-by_stop j b (Trapped e) x s p = by_trap_lem j b e x s p
-by_stop j b (Faulted e) None s p = ap (λ (u : Status). not (is_waiting u)) s
-by_stop j b (Faulted e) (Some r) s p = absurd (let z : ◌≡◌ {A = ℕ} 0 1 = cc in omega arith)
+by_stop j b e None s p = ap not (ap is_waiting s ∙ nothing_owed e j b.calls p)
+by_stop j b e (Some r) s p =
+    let h : Waits j b r.job r.number = owed_waits e j b (record { job = r.job; number = r.number }) s p in
+    and_from (is_waiting b.status) _ h.waiting (and_from (eqb r.job j) _ (eq-eqb r.job j h.job) (eq-eqb r.number b.calls h.number))
 
--- A run that is accepted: the job did not wait, and is owed the receipt that the run gives.
-pub record RanOwes (j : ℕ) (w v : World) (x : Option Receipt) : Type 0 where
-  pub low : j < 8
-  pub idle : is_waiting (w.jobs j).status ≡ false
-  pub jobs : v.jobs ≡ upd w.jobs j (v.jobs j)
-  pub owed : owed_to j (v.jobs j) x ≡ true
+-- A run that is accepted: its job is owed the receipt that it gives.
+pub run_owes : (j : ℕ) (w v : World) (r : Ran) (x : Option Receipt) → RanSays j w v r (owed_of x) → owed_to j (v.jobs j) x ≡ true
+run_owes j w v r x h = by_stop j (v.jobs j) r.stop x h.status h.owed
 
-module _ (j n : ℕ) (w v : World) where
-  pub run_owes : (r : Ran) (x : Option Receipt) → does (asks j (runs n)) w ≡ record { world = v; answer = ran r (owed_of x) } → RanOwes j w v x
-  run_owes r x p = go (judge_run j n (w.jobs j)) refl
-    where
-      go : (z : Judgement) → judge_run j n (w.jobs j) ≡ z → RanOwes j w v x
-      go (Err e) q = refused_ran e r (owed_of x) (ap (λ (d : Done). d.answer) (sym (refuses j (runs n) w e q) ∙ p))
-      go (Ok u) q =
-          let b : Job = w.jobs j in
-          let y : Over = run_of n 0 0 b.processor (space_at w j) in
-          let c : Job = ran_job b y.answer y.cpu in
-          let same : settle j w (ran_left j b y) ≡ record { world = v; answer = ran r (owed_of x) } = sym (accepts j (runs n) w q) ∙ p in
-          let jobs : upd w.jobs j c ≡ v.jobs = ap (λ (d : Done). d.world.jobs) same in
-          let job : v.jobs j ≡ c = sym (ap (λ (f : ℕ → Job). f j) jobs) ∙ upd_same w.jobs j c in
-          let owes : ran y.answer (owed_by y.answer.stop j c.calls) ≡ ran r (owed_of x) = ap (λ (d : Done). d.answer) same in
-          let owed : owed_of x ≡ owed_by y.answer.stop j c.calls = cc in
-          record {
-            low = seated j _ q;
-            idle = when_no (is_waiting b.status) JobWaiting (passed (waits b) _ (passed (not_open b) _ (passed (no_such_job j) _ q).1).1).0;
-            jobs = sym jobs ∙ ap (upd w.jobs j) (sym job);
-            owed = subst (λ (k : Job). owed_to j k x ≡ true) (sym job) (by_stop j c y.answer.stop x refl owed);
-          }
+-- One that is refused changes no record.
+pub run_refused : (j n : ℕ) (w v : World) (e : Refusal) → does (asks j (runs n)) w ≡ record { world = v; answer = refused e } → w.jobs ≡ v.jobs
+run_refused j n w v e p = go (judge_run j n (w.jobs j)) refl
+  where
+    go : (z : Judgement) → judge_run j n (w.jobs j) ≡ z → w.jobs ≡ v.jobs
+    go (Err d) q = ap (λ (x : Done). x.world.jobs) (sym (refuses j (runs n) w d q) ∙ p)
+    go (Ok u) q = refused_ran e _ _ (ap (λ (d : Done). d.answer) (sym p ∙ accepts j (runs n) w q))
 
-  pub run_refused : (e : Refusal) → does (asks j (runs n)) w ≡ record { world = v; answer = refused e } → w.jobs ≡ v.jobs
-  run_refused e p = go (judge_run j n (w.jobs j)) refl
-    where
-      go : (z : Judgement) → judge_run j n (w.jobs j) ≡ z → w.jobs ≡ v.jobs
-      go (Err d) q = ap (λ (x : Done). x.world.jobs) (sym (refuses j (runs n) w d q) ∙ p)
-      go (Ok u) q = refused_ran e _ _ (ap (λ (d : Done). d.answer) (sym p ∙ accepts j (runs n) w q))
+-- A call of a desk with the number of a receipt: a reply or an abandoning.
+module _ (ask : ℕ → Ask) (desk : Desk) (j n : ℕ)
+    (judges : (w : World) → judge_ask j (ask n) (w.jobs j) (space_at w j) ≡ judge_receipt j n (w.jobs j)) where
+  abbrev place : Option Receipt
+  place = get_or desk.held.receipts j None
 
--- A receipt that is accepted: the answer is no refusal, and the job's record is the effect's.
-module _ (j : ℕ) (x : Ask) (w v : World) (judged : judge_ask j x (w.jobs j) (space_at w j) ≡ Ok tt) where
-  pub not_refused : {A : Type 0} (e : Refusal) → (effect_of j x (w.jobs j) (space_at w j)).answer ≡ done → does (asks j x) w ≡ record { world = v; answer = refused e } → A
-  not_refused e d p = refused_done e (ap (λ (y : Done). y.answer) (sym p ∙ accepts j x w judged) ∙ d)
+  -- Without the receipt it is refused, and changes nothing.
+  pub missing : None ≡ fitting n place → (m : Mem) → world_of desk.engine.jobs m ≡ (does (asks j (ask n)) (world_of desk.engine.jobs m)).world
+  missing p m =
+      let w : World = world_of desk.engine.jobs m in
+      let q = refused_receipt j n (w.jobs j) place (desk.kept j) p in
+      sym (ap (λ (d : Done). d.world) (refuses j (ask n) w q.0 (judges w ∙ q.1)))
 
-  pub puts : (a : Answer) → does (asks j x) w ≡ record { world = v; answer = a } → v.jobs ≡ upd w.jobs j (effect_of j x (w.jobs j) (space_at w j)).job
-  puts a p = ap (λ (y : Done). y.world.jobs) (sym p ∙ accepts j x w judged)
+  -- With it, which is taken out, it is accepted, and the places stay right.
+  module _ (v : List Job) (r : Receipt) (res : Result (Unit {0}) Returned) (fits : Some r ≡ fitting n place)
+      (p : (m : Mem) → does (asks r.job (ask r.number)) (world_of desk.engine.jobs m) ≡ record { world = world_of v m; answer = returned_answer res }) where
+    abbrev w : World
+    w = world_of desk.engine.jobs no_mem
 
--- A call with a receipt that is taken out: a reply or an abandoning. It is accepted, and the places stay right.
-module _ (ask : ℕ → Ask) (w v : World) (rs : List (Option Receipt)) (j n : ℕ) (r : Receipt) (res : Result (Unit {0}) Returned)
-    (held : (k : ℕ) → owed_to k (w.jobs k) (get_or rs k None) ≡ true) (len : length rs ≡ 8) (fits : Some r ≡ fitting n (get_or rs j None))
-    (p : does (asks r.job (ask r.number)) w ≡ record { world = v; answer = returned_answer res })
-    (judges : judge_ask j (ask n) (w.jobs j) (space_at w j) ≡ judge_receipt j n (w.jobs j)) where
-  out : Taken w.jobs rs j n r
-  out = taken w.jobs rs j n r held len fits
+    out : Taken w.jobs desk.held.receipts j n r
+    out = taken w.jobs desk.held.receipts j n r desk.kept desk.held.eight fits
 
-  here : does (asks j (ask n)) w ≡ record { world = v; answer = returned_answer res }
-  here = ap₂ (λ i k. does (asks i (ask k)) w) (sym out.job) (sym out.number) ∙ p
+    here : does (asks j (ask n)) w ≡ record { world = world_of v no_mem; answer = returned_answer res }
+    here = ap₂ (λ i k. does (asks i (ask k)) w) (sym out.job) (sym out.number) ∙ p no_mem
 
-  pub receipt_kept : (qs : List (Option Receipt)) → is_waiting (effect_of j (ask n) (w.jobs j) (space_at w j)).job.status ≡ false
-      → qs ≡ set rs j None → (k : ℕ) → owed_to k (v.jobs k) (get_or qs k None) ≡ true
-  receipt_kept qs idle e =
-      all_kept w.jobs v.jobs rs qs j (effect_of j (ask n) (w.jobs j) (space_at w j)).job None held
-      (let low : j < 8 = out.low in omega (arith, len)) (puts j (ask n) w v (judges ∙ out.judged) _ here) e (ap not idle)
+    pub receipt_kept : (qs : List (Option Receipt)) → is_waiting (effect_of j (ask n) (w.jobs j) (space_at w j)).job.status ≡ false
+        → qs ≡ set desk.held.receipts j None → (k : ℕ) → owed_to k (jobs_of v k) (get_or qs k None) ≡ true
+    receipt_kept qs idle e =
+        all_kept w.jobs (jobs_of v) desk.held.receipts qs j (effect_of j (ask n) (w.jobs j) (space_at w j)).job None desk.kept
+        (let low : j < 8 = out.low in omega (arith, desk.held.eight)) (ap (λ (y : Done). y.world.jobs) (sym here ∙ accepts j (ask n) w (judges w ∙ out.judged))) e (ap not idle)
 
-  pub receipt_accepted : (effect_of j (ask n) (w.jobs j) (space_at w j)).answer ≡ done → IsOk res
-  receipt_accepted d = go res refl
-    where
-      go : (x : Result (Unit {0}) Returned) → res ≡ x → IsOk x
-      go (Ok u) e = refl
-      go (Err f) e = not_refused j (ask n) w v (judges ∙ out.judged) f.refusal d (here ∙ ap {B = Done} (λ (x : Result (Unit {0}) Returned). record { world = v; answer = returned_answer x }) e)
-
--- A call with a receipt that is not held is refused, and changes nothing.
-pub missing_world : (ask : ℕ → Ask) (w : World) (j n : ℕ) (x : Option Receipt) → judge_ask j (ask n) (w.jobs j) (space_at w j) ≡ judge_receipt j n (w.jobs j)
-    → owed_to j (w.jobs j) x ≡ true → None ≡ fitting n x → w ≡ (does (asks j (ask n)) w).world
-missing_world ask w j n x judges held p =
-    let q = refused_receipt j n (w.jobs j) x held p in
-    sym (ap (λ (d : Done). d.world) (refuses j (ask n) w q.0 (judges ∙ q.1)))
+    pub receipt_accepted : (effect_of j (ask n) (w.jobs j) (space_at w j)).answer ≡ done → IsOk res
+    receipt_accepted d = receipt_ends j (ask n) w (world_of v no_mem) res (judges w ∙ out.judged) d here
 
 -- Abandoning what a job is owed releases it.
 pub release_says : (w v : World) (j n : ℕ) → Owes (w.jobs j) j n → v ≡ (does (asks j (abandons n)) w).world
@@ -203,11 +151,3 @@ release_says w v j n o p k =
         ∙ sym (ap (λ z. cond z closed_job (w.jobs k)) (ap (λ i. is_waiting (w.jobs i).status) (eqb-true k j e) ∙ o.waiting))
         ∙ sym (ap (λ z. cond z (released (w.jobs k)) (w.jobs k)) e)
     go false e = ap (λ z. cond z closed_job (w.jobs k)) e ∙ sym (ap (λ z. cond z (released (w.jobs k)) (w.jobs k)) e)
-
--- What a run owes is accepted by its engine.
-pub run_accepts : (j n : ℕ) (w v : World) (r : Ran) (x : Receipt) → does (asks j (runs n)) w ≡ record { world = v; answer = ran r (owed_of (Some x)) }
-    → judge_receipt x.job x.number (v.jobs x.job) ≡ Ok tt
-run_accepts j n w v r x p =
-    let says : RanOwes j w v (Some x) = run_owes j n w v r (Some x) p in
-    let waits : Waits j (v.jobs j) x = held_waits j (v.jobs j) x says.owed in
-    subst (λ i. judge_receipt i x.number (v.jobs i) ≡ Ok tt) (sym waits.job) (accepted j x.number (v.jobs j) says.low waits.waiting waits.number)

@@ -1,30 +1,21 @@
 -- What is held for a job, before and after a call.
-use Rattle.std.proofs.Common.{◌≡◌, ℕ, ◌<◌, ◌≤◌, Bool, true, false, cond, not, ◌&&◌, eqb, ltb, ◌≢◌, List, length, get_or, set, Some, None, Ok, Err, Option, sym, refl, ap, ◌∙◌, subst, arith, get_or-set_other, get_or-set_same, ltb-true, eq-eqb, eqb-true}
+use Rattle.std.proofs.Common.{◌≡◌, ℕ, ◌<◌, ◌≤◌, Bool, true, false, cond, not, ◌&&◌, eqb, ltb, ◌≢◌, List, length, get_or, set, Some, None, Ok, Err, Option, sym, refl, ap, ◌∙◌, subst, arith, get_or-set_other, get_or-set_same, ltb-true, eq-eqb, eqb-true, ⊎_elim}
 use borrow.Author.Tests.{eqb-false}
-use Rattle.std.proofs.lemmas.Bool.{le-ltb, ltb-false, not-true, and_left, and_right, and_parts, and_from}
-use Rattle.refusal.specs.declared.Ground.TheVariants.{NoSuchJob, NotOpen, NotOwed}
+use Rattle.std.proofs.lemmas.Bool.{ltb-false, not-true, and_left, and_right, and_parts}
 use Rattle.refusal.specs.declared.Refusal.{Refusal}
-use Rattle.refusal.specs.Judging.{Judgement, when, also}
-use Rattle.pages.proofs.Truths.{clash, by_test}
+use Rattle.std.proofs.lemmas.Bool.{both_ways, cases_Bool}
 use Rattle.model.specs.declared.job.Job.{Job}
-use Rattle.model.specs.declared.job.Status.{Status}
-use Rattle.model.specs.declared.job.Status.TheVariants.{Closed, Ready, Waiting, Ended}
-use Rattle.model.specs.Jobs.{is_open, is_waiting}
-use Rattle.model.specs.Acts.{no_such_job, not_open, not_owed, judge_receipt}
+use Rattle.model.specs.Jobs.{is_waiting}
+use Rattle.model.specs.Acts.{judge_receipt}
 use Rattle.model.specs.Worlds.{upd}
 use Rattle.engine.specs.declared.receipt.Receipt.{Receipt}
+use Rattle.engine.proofs.Receipts.{Waits, accepted, unowed}
 use Rattle.desk.specs.Held.{number_in, fitting}
 use Rattle.desk.specs.Owing.{owed_to}
 use Rattle.std.proofs.lemmas.List.{get_or_past}
 use Rattle.std.proofs.lemmas.Option.{none-some}
 
--- What a held receipt says of its job.
-pub record Waits (j : ℕ) (b : Job) (r : Receipt) : Type 0 where
-  pub waiting : is_waiting b.status ≡ true
-  pub job : r.job ≡ j
-  pub number : r.number ≡ b.calls
-
-pub held_waits : (j : ℕ) (b : Job) (r : Receipt) → owed_to j b (Some r) ≡ true → Waits j b r
+pub held_waits : (j : ℕ) (b : Job) (r : Receipt) → owed_to j b (Some r) ≡ true → Waits j b r.job r.number
 held_waits j b r h =
     let parts = and_parts (is_waiting b.status) (eqb r.job j && eqb r.number b.calls) h in
     let rest = and_parts (eqb r.job j) (eqb r.number b.calls) parts.1 in
@@ -33,31 +24,7 @@ held_waits j b r h =
 pub none_idle : (j : ℕ) (b : Job) → owed_to j b None ≡ true → is_waiting b.status ≡ false
 none_idle j b h = not-true (is_waiting b.status) h
 
--- A job that waits is open.
-waiting_open : (s : Status) → is_waiting s ≡ true → is_open s ≡ true
-waiting_open Closed h = h
-waiting_open Ready h = refl
-waiting_open Waiting h = refl
-waiting_open Ended h = refl
-
--- The engine accepts a receipt that is held.
-pub accepted : (j n : ℕ) (b : Job) → j < 8 → is_waiting b.status ≡ true → n ≡ b.calls → judge_receipt j n b ≡ Ok tt
-accepted j n b low h e =
-    ap (λ z. also (when z NoSuchJob) (also (not_open b) (also (not_owed b n) (Ok tt)))) (le-ltb 7 j (let k : j ≤ 7 = omega arith in k))
-    ∙ ap (λ z. also (when (not z) NotOpen) (also (not_owed b n) (Ok tt))) (waiting_open b.status h)
-    ∙ ap (λ z. also (when (not z) NotOwed) (Ok tt)) (and_from (is_waiting b.status) (eqb b.calls n) h (eq-eqb b.calls n (sym e)))
-
--- And refuses one that is not.
-later : (x y : Judgement) (e : Refusal) → (d : Refusal) × (also x (also y (also (Err e) (Ok tt))) ≡ Err d)
-later (Err d) y e = (d, refl)
-later (Ok u) (Err d) e = (d, refl)
-later (Ok u) (Ok v) e = (e, refl)
-
-unowed : (j n : ℕ) (b : Job) → (is_waiting b.status && eqb b.calls n) ≡ false → (d : Refusal) × (judge_receipt j n b ≡ Err d)
-unowed j n b h =
-    let f = later (no_such_job j) (not_open b) (record { ground = NotOwed; place = 0 }) in
-    (f.0, ap (λ z. also (no_such_job j) (also (not_open b) (also (when (not z) NotOwed) (Ok tt)))) h ∙ f.1)
-
+-- The engine refuses a receipt that is not held.
 pub refused_receipt : (j n : ℕ) (b : Job) (x : Option Receipt) → owed_to j b x ≡ true → None ≡ fitting n x → (d : Refusal) × (judge_receipt j n b ≡ Err d)
 refused_receipt j n b None h f = unowed j n b (and_left (is_waiting b.status) (eqb b.calls n) (none_idle j b h))
 refused_receipt j n b (Some r) h f = go (eqb r.number n) refl
@@ -89,9 +56,10 @@ pub taken : (f : ℕ → Job) (rs : List (Option Receipt)) (j n : ℕ) (r : Rece
     → Some r ≡ fitting n (get_or rs j None) → Taken f rs j n r
 taken f rs j n r h len p =
     let there = fitted n (get_or rs j None) r p in
-    let w : Waits j (f j) r = held_waits j (f j) r (subst (λ (x : Option Receipt). owed_to j (f j) x ≡ true) there.0 (h j)) in
-    let low : j < 8 = by_test (ltb j 8) (λ e. ltb-true j 8 e)
-    (λ e. absurd (none-some r (sym (get_or_past rs j None (let k : 8 ≤ j = ltb-false j 8 e in omega (arith, len))) ∙ there.0))) in
+    let w : Waits j (f j) r.job r.number = held_waits j (f j) r (subst (λ (x : Option Receipt). owed_to j (f j) x ≡ true) there.0 (h j)) in
+    let low : j < 8 = ⊎_elim (λ e. ltb-true j 8 e)
+    (λ e. absurd (none-some r (sym (get_or_past rs j None (let k : 8 ≤ j = ltb-false j 8 e in omega (arith, len))) ∙ there.0)))
+    (cases_Bool (ltb j 8)) in
     record { low = low; job = w.job; number = there.1; judged = accepted j n (f j) low w.waiting (sym there.1 ∙ w.number) }
 
 -- The number that is held is one that the engine accepts.
@@ -117,7 +85,7 @@ owes f rs j n h len p = go (get_or rs j None) refl
 -- A job that neither waited before nor waits after a call: what is held for it, nothing, is right then too.
 pub idle_kept : (j : ℕ) (b c : Job) (x : Option Receipt) → is_waiting b.status ≡ false → is_waiting c.status ≡ false → owed_to j b x ≡ true → owed_to j c x ≡ true
 idle_kept j b c None h k e = ap not k
-idle_kept j b c (Some r) h k e = clash (is_waiting b.status) (held_waits j b r e).waiting h
+idle_kept j b c (Some r) h k e = absurd (both_ways (is_waiting b.status) h (held_waits j b r e).waiting)
 
 -- All places, once one job's record and receipt are others.
 pub all_kept : (f g : ℕ → Job) (rs qs : List (Option Receipt)) (j : ℕ) (b : Job) (x : Option Receipt)

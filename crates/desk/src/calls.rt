@@ -5,14 +5,14 @@ ghost use Rattle.memory.specs.Memories.{Mem};
 ghost use Rattle.model.specs.Calls.{opens, asks, loads, runs as asks_run, replies, abandons, looks, states, closes};
 ghost use Rattle.model.specs.Acts.{judge_receipt};
 ghost use Rattle.model.specs.Worlds.{jobs_of, world_of, new_world, does};
-ghost use Rattle.engine.specs.Answers.{done_answer, look_answer, state_answer};
+ghost use Rattle.engine.specs.Answers.{done_answer, look_answer, told_answer, state_answer};
 ghost use Rattle.protection.specs.Protection.{Protected};
 ghost use Rattle.desk.specs.Held.{number_in};
 ghost use Rattle.desk.specs.Owing.{owed_as, owed_at, desk_answer, released};
 ghost use Rattle.desk.specs.Answers.{held_answer};
 
 use crate::desk::{Desk, NotHeld};
-use crate::held::Held;
+use crate::held::{Held, gone};
 use engine::jobs::Engine;
 use engine::receipt::Outcome;
 use memory::Memory;
@@ -63,10 +63,8 @@ impl Desk {
         ensures { does (asks job (asks_run limit)) (world_of self.old.engine.jobs (M.mem memory.old)) ≡ record { world = world_of self.new.engine.jobs (M.mem memory.new); answer = desk_answer result (owed_at self.new.held.receipts job) } }
     {
         let Outcome { run, receipt } = self.engine.run(memory, job, limit)?;
-        match self.held.replace(job, receipt) {
-            None => Ok(run),
-            Some(_) => unreachable(),
-        }
+        gone(self.held.replace(job, receipt));
+        Ok(run)
     }
 
     // The number of the system call that the job waits for.
@@ -75,6 +73,13 @@ impl Desk {
         ensures whole { owed_as job result ≡ owed_at self.now.held.receipts job }
     {
         self.held.number(job)
+    }
+
+    // As the engine's: refused with 4 and 6.
+    pub fn state_of(&self, job: u8) -> Result<State, Refusal>
+        ensures { (m : Mem) → does (asks job states) (world_of self.now.engine.jobs m) ≡ record { world = world_of self.now.engine.jobs m; answer = told_answer result } }
+    {
+        self.engine.state_of(job)
     }
 
     // As the engine's: refused with 4 and 6, with the buffer as it was.

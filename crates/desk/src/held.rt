@@ -1,4 +1,4 @@
-// The receipts that are held, a place for each job.
+// The receipts that are held, a place for each job: an array of eight, since memory is fixed and nothing is allocated.
 ghost use Rattle.std.specs.Prelude.{◌≡◌, ℕ, ◌<◌, length, replicate, Some, None, slice_index_or, slice_set};
 ghost use Rattle.desk.specs.Held.{number_in, fitting, without};
 
@@ -11,7 +11,7 @@ pub struct Held {
 }
 
 // A place that is empty.
-fn gone(receipt: Option<Receipt>)
+pub(crate) fn gone(receipt: Option<Receipt>)
     requires { receipt ≡ None }
 {
     match receipt {
@@ -37,7 +37,8 @@ impl Held {
         place.as_ref().map(|receipt| receipt.number())
     }
 
-    // Puts another in a job's place, and gives what was there.
+    // Puts another in a job's place, and gives what was there. A number that has no place would leave the receipt without one: the engine ran
+    // the job, so it is below eight.
     pub(crate) fn replace(&mut self, job: u8, new: Option<Receipt>) -> Option<Receipt>
         requires { job < 8 }
         ensures value { result ≡ slice_index_or self.old.receipts job None }
@@ -46,19 +47,19 @@ impl Held {
         mem::replace(&mut self.receipts[usize::from(job)], new)
     }
 
-    // Takes the job's receipt out, if it has this number.
+    // Takes the job's receipt out, if it has this number. Tried: `get_mut` and `?`, where nothing says what the place holds after the loan.
     pub(crate) fn take(&mut self, job: u8, number: u32) -> Option<Receipt>
         ensures value { result ≡ fitting number (slice_index_or self.old.receipts job None) }
         ensures after { self.new.receipts ≡ without result self.old.receipts job }
     {
-        let held = self.number(job)?;
-        if held != number {
+        if usize::from(job) >= self.receipts.len() {
             return None;
         }
-        self.replace(job, None)
+        self.receipts[usize::from(job)].take_if(|receipt| receipt.number() == number)
     }
 
-    // Lets go of the places, once they are empty. Place by place: a loop over an array, or its `map`, wants items that can be dropped, and a receipt cannot.
+    // Lets go of the places, once they are empty: one by one. Tried: a pattern of eight `None`, a loop over the array, its `map`. None of them
+    // ends an array whose items cannot be dropped, and a receipt cannot.
     pub(crate) fn let_go(self)
         requires { (k : ℕ) → slice_index_or self.receipts k None ≡ None }
     {

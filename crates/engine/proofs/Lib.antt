@@ -1,3 +1,4 @@
 pub mod Judged
+pub mod Receipts
 pub mod Loaded
 pub mod Looked

@@ -24,6 +24,10 @@ abbrev pub returned_answer : Result (Unit {0}) Returned → Answer
 returned_answer (Ok u) = done
 returned_answer (Err e) = refused e.refusal
 
+abbrev pub told_answer : Result State Refusal → Answer
+told_answer (Ok s) = told s
+told_answer (Err e) = refused e
+
 -- The state is told by what the buffer then holds.
 abbrev pub state_answer : Result (Unit {0}) Refusal → State → Answer
 state_answer (Ok u) s = told s

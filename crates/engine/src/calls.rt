@@ -1,13 +1,13 @@
-// The calls. Each does what the model's definition of it says, and a refused one changes nothing. A state and a look go into a buffer that
-// is lent, as the calls are defined; that a refused one leaves it is said of a change, so each of them says it.
+// The calls. Each does what the model's definition of it says, and a refused one changes nothing. That a refused one leaves the buffer which
+// it is lent, or hands back the receipt which it is given, is said of what the caller passed, so each of them says it.
 ghost use Rattle.std.specs.Prelude.{◌≡◌, ℕ, ◌+◌, ◌*◌, ◌<◌, ◌≤◌, Bool, false, length, replicate, IfOk, IfErr, OnErr};
 ghost use Rattle.memory.specs.Memories.{Mem};
 ghost use Rattle.runs.specs.Runs.{calls_in};
-ghost use Rattle.model.specs.Jobs.{closed_job, ran_job, state_of};
+ghost use Rattle.model.specs.Jobs.{closed_job, ran_job};
 ghost use Rattle.model.specs.Calls.{opens, asks, loads, runs as asks_run, replies, abandons, looks, states, closes};
 ghost use Rattle.model.specs.Acts.{judge_receipt, owed_by};
 ghost use Rattle.model.specs.Worlds.{jobs_of, world_of, new_world, upd, twice, does};
-ghost use Rattle.engine.specs.Answers.{done_answer, owed_of, ran_answer, returned_answer, look_answer, state_answer};
+ghost use Rattle.engine.specs.Answers.{done_answer, owed_of, ran_answer, returned_answer, look_answer, told_answer, state_answer};
 ghost use Rattle.engine.specs.Judges.{record_or, record_in};
 ghost use Rattle.protection.specs.Protection.{Protected};
 
@@ -55,13 +55,6 @@ fn closed_jobs() -> [Job; 8]
     [Job::closed(); 8]
 }
 
-// Puts the state of a record into the buffer.
-fn show(seat: &Job, out: &mut State)
-    ensures { out.new ≡ state_of seat.now }
-{
-    *out = seat.state();
-}
-
 impl Engine {
     // Eight closed jobs. The jobs that are opened in it are protected from one another.
     pub fn new() -> Engine
@@ -98,8 +91,9 @@ impl Engine {
         requires { seat.now ≡ jobs_of self.now.jobs job }
         ensures { result.entries ≡ seat.now.table }
     {
-        let entries = seat.table;
-        Table { entries }
+        Table {
+            entries: seat.table,
+        }
     }
 
     // Gives a job its table and starting address, and clears its pages: refused with 4, 5, 7, 8, 9 and 10.
@@ -189,13 +183,20 @@ impl Engine {
         Ok(())
     }
 
+    // The job's state: refused with 4 and 6.
+    pub fn state_of(&self, job: u8) -> Result<State, Refusal>
+        ensures { (m : Mem) → does (asks job states) (world_of self.now.jobs m) ≡ record { world = world_of self.now.jobs m; answer = told_answer result } }
+    {
+        let record = self.open_record(job)?;
+        Ok(record.state())
+    }
+
     // Fills the buffer with the job's state: refused with 4 and 6, with the buffer as it was.
     pub fn state(&self, job: u8, out: &mut State) -> Result<(), Refusal>
         ensures world { (m : Mem) → does (asks job states) (world_of self.now.jobs m) ≡ record { world = world_of self.now.jobs m; answer = state_answer result out.new } }
         ensures untouched { OnErr result (out.new ≡ out.old) }
     {
-        let record = self.open_record(job)?;
-        show(&record, out);
+        *out = self.state_of(job)?;
         Ok(())
     }
 

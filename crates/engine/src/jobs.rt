@@ -4,7 +4,8 @@ ghost use Rattle.model.specs.Worlds.{jobs_of, twice};
 
 use model::job::Job;
 
-// Eight jobs. No table names a page twice, and the sums since an opening fit: a step takes less than 2^32 nanoseconds and makes at most one system call.
+// Eight jobs, each with a record, also while it is closed: the definitions have one for every number, and so no `Option`.
+// No table names a page twice, and the sums since an opening fit: a step takes less than 2^32 nanoseconds and makes at most one system call.
 #[derive(Drop)]
 pub struct Engine {
     pub(crate) jobs: [Job; 8],

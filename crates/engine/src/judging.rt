@@ -63,7 +63,8 @@ impl Engine {
         Ok(record)
     }
 
-    // Whether the job `k` is another than `job` and holds the page.
+    // Whether the job `k` is another than `job` and holds the page. That `k` is below eight is the caller's range; tried: what this says, as
+    // that range's closure, gets no proof where the closure indexes the records.
     fn other_holds(&self, k: u8, job: u8, page: Page) -> bool
         requires { k < 8 }
         ensures { result ≡ (not (k == job) && holds (jobs_of self.now.jobs k).table page.number) }

@@ -1,4 +1,4 @@
-// The engine: eight jobs over a memory that is lent at each call. So memory and job stay two parameters of a call.
+// The engine: eight jobs over a memory that is lent at each call. So memory and job, and at a run its limit, stay parameters of the call.
 #![tactic(auto)]
 
 pub mod calls;

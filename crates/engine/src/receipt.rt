@@ -6,6 +6,7 @@ use refusal::Refusal;
 use runs::Ran;
 
 // What is owed for a system call. It cannot be dropped: it ends in an accepted reply or abandoning, and a refused one hands it back.
+#[derive(PartialEq, Eq)]
 pub struct Receipt {
     pub(crate) job: u8,
     pub(crate) number: u32,

@@ -26,9 +26,7 @@ impl Host<'_, '_> {
     }
 
     pub fn state(&self, job: u8) -> Result<State, Refusal> {
-        let mut state = State::blank();
-        self.desk.state(job, &mut state)?;
-        Ok(state)
+        self.desk.state_of(job)
     }
 
     // Replies to the system call that a job waits for.

@@ -20,16 +20,14 @@ use std::alloc::Global;
 fn compare(heap: Global) -> Result<Report, Problem> {
     let alone = pricing::alone(heap)?;
     let Priced { bills, attempts } = pricing::interleaved(heap)?;
-    let mut comparisons = Vec::new(heap);
-    for ((shipper, alone), beside) in SHIPPERS.iter().zip(alone).zip(bills) {
-        comparisons.push(Comparison {
-            shipper: *shipper,
-            alone,
-            beside,
-        })?;
-    }
+    let comparisons = SHIPPERS.into_iter().zip(alone).zip(bills);
+    let comparisons = comparisons.map(|((shipper, alone), beside)| Comparison {
+        shipper,
+        alone,
+        beside,
+    });
     Ok(Report {
-        comparisons,
+        comparisons: comparisons.collect(heap)?,
         attempts,
     })
 }

@@ -21,6 +21,14 @@ pub struct Priced {
     pub attempts: Vec<Attempt>,
 }
 
+// Who prices at a host beside whom, and how many steps a job makes before the next has its turn.
+#[derive(Clone, Copy)]
+struct Setting<'a> {
+    shippers: &'a [Shipper],
+    trespasses: &'static [Trespass],
+    slice: u16,
+}
+
 // Those that share a host.
 #[derive(Drop)]
 struct Floor {
@@ -29,19 +37,14 @@ struct Floor {
 }
 
 impl Floor {
-    fn open(
-        host: &mut Host,
-        heap: Global,
-        shippers: &[Shipper],
-        trespasses: &'static [Trespass],
-    ) -> Result<Floor, Problem> {
+    fn open(host: &mut Host, heap: Global, setting: Setting) -> Result<Floor, Problem> {
         let mut seats = Vec::new(heap);
-        for shipper in shippers {
+        for shipper in setting.shippers {
             seats.push(Seat::take(host, heap, *shipper)?)?;
         }
         Ok(Floor {
             seats,
-            trespasser: Trespasser::new(heap, trespasses),
+            trespasser: Trespasser::new(heap, setting.trespasses),
         })
     }
 
@@ -69,48 +72,44 @@ impl Floor {
     }
 }
 
-// Round after round, until the shippers are over.
-fn price_at(
-    host: &mut Host,
-    heap: Global,
-    shippers: &[Shipper],
-    trespasses: &'static [Trespass],
-    slice: u16,
-) -> Result<Priced, Problem> {
-    let mut floor = Floor::open(host, heap, shippers, trespasses)?;
-    for _ in 0..MOST_ROUNDS {
-        if floor.is_over() {
-            return floor.settle(host, heap);
+impl Setting<'_> {
+    // Round after round, until the shippers are over.
+    fn price_at(self, host: &mut Host, heap: Global) -> Result<Priced, Problem> {
+        let mut floor = Floor::open(host, heap, self)?;
+        for _ in 0..MOST_ROUNDS {
+            if floor.is_over() {
+                return floor.settle(host, heap);
+            }
+            floor.round(host, self.slice)?;
         }
-        floor.round(host, slice)?;
+        Err(Problem::Endless)
     }
-    Err(Problem::Endless)
-}
 
-// The same at a host of their own: a new engine and a new board.
-fn price(
-    heap: Global,
-    shippers: &[Shipper],
-    trespasses: &'static [Trespass],
-    slice: u16,
-) -> Result<Priced, Problem> {
-    let mut bytes = vec![in heap; 0u8; 65536]?;
-    let mut board = tariff_board(&mut bytes)?;
-    let mut desk = Desk::new();
-    let mut host = Host {
-        desk: &mut desk,
-        board: &mut board,
-    };
-    let priced = price_at(&mut host, heap, shippers, trespasses, slice);
-    let _ = desk.finish();
-    priced
+    // The same at a host of their own: a new engine and a new board.
+    fn price(self, heap: Global) -> Result<Priced, Problem> {
+        let mut bytes = vec![in heap; 0u8; 65536]?;
+        let mut board = tariff_board(&mut bytes)?;
+        let mut desk = Desk::new();
+        let mut host = Host {
+            desk: &mut desk,
+            board: &mut board,
+        };
+        let priced = self.price_at(&mut host, heap);
+        let _ = desk.finish();
+        priced
+    }
 }
 
 // The bill of each shipper at a host of its own, where it is run up to each of its questions.
 pub fn alone(heap: Global) -> Result<Vec<Bill>, Problem> {
     let mut bills = Vec::new(heap);
     for shipper in SHIPPERS {
-        let mut priced = price(heap, &[shipper], &[], u16::MAX)?;
+        let setting = Setting {
+            shippers: &[shipper],
+            trespasses: &[],
+            slice: u16::MAX,
+        };
+        let mut priced = setting.price(heap)?;
         bills.append(&mut priced.bills)?;
     }
     Ok(bills)
@@ -118,5 +117,10 @@ pub fn alone(heap: Global) -> Result<Vec<Bill>, Problem> {
 
 // One host for all, in slices.
 pub fn interleaved(heap: Global) -> Result<Priced, Problem> {
-    price(heap, &SHIPPERS, &TRESPASSES, SLICE)
+    let setting = Setting {
+        shippers: &SHIPPERS,
+        trespasses: &TRESPASSES,
+        slice: SLICE,
+    };
+    setting.price(heap)
 }

@@ -99,6 +99,7 @@ impl Trespasser {
     }
 }
 
+// In this demonstration's own words, so by functions: the `Display` of a stop or a ground would be the product's.
 fn stop_words(stop: Stop) -> &'static str {
     match stop {
         Stop::Limit => "it ran on to its limit",

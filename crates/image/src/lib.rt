@@ -43,31 +43,22 @@ pub fn enough() -> usize
 fn begins_image(file: &[u8]) -> bool
     ensures { result ≡ begins file.now }
 {
-    let [d, p, j, high, low, ..] = file else {
-        return false;
-    };
-    *d == b'D' && *p == b'P' && *j == b'J' && *high == 0 && *low == 1
+    file.starts_with(b"DPJ\0\x01")
 }
 
 // The block at an offset, if the file has all of it.
 fn block_at<'a>(file: &'a [u8], offset: usize) -> Option<Block<'a>>
     ensures { Stands result file.now offset }
 {
-    if offset > file.len() {
-        return None;
-    }
-    let [a, b, c, d, rest @ ..] = &file[offset..] else {
+    let [a, b, c, d, rest @ ..] = file.get(offset..)? else {
         return None;
     };
     let address = u16::from_be_bytes([*a, *b]);
     let size = u16::from_be_bytes([*c, *d]) as usize;
-    if size > rest.len() {
-        return None;
-    }
     Some(Block {
         offset,
         address,
-        bytes: &rest[0..size],
+        bytes: rest.get(..size)?,
     })
 }
 

@@ -14,6 +14,7 @@ use script::commands::Command;
 use script::faults::Fault;
 use script::parsing::parse;
 use std::alloc::Global;
+use std::io;
 use std::io::{BufRead, BufReader, Split, Stdin};
 
 // A desk at work over its memory.
@@ -64,16 +65,26 @@ fn say(rt: &HostRuntime, answer: Result<Answer, Denial>) -> anyhow::Result<()> {
     Ok(())
 }
 
+// The command of a line, if it has one. A fault is answered here.
+fn read(rt: &HostRuntime, line: io::Result<Vec<u8>>) -> anyhow::Result<Option<Command>> {
+    match parse(line?.as_slice(), rt.alloc()) {
+        Ok(command) => Ok(command),
+        Err(fault) => {
+            say(rt, Err(Denial::Error(fault)))?;
+            Ok(None)
+        }
+    }
+}
+
+// Both loops go over the lines. Tried over an iterator of commands: each function that is given one would require that it goes on and ends.
 impl Console<'_> {
-    // Follows the lines on memory up to the first other command, which it gives. The loop over lines stands here and below: one that asks a
-    // method for the next command would not be seen to end.
+    // Follows the lines on memory up to the first other command, which it gives.
     fn set_up(&mut self, plan: &mut Plan, board: &mut [u8]) -> anyhow::Result<Option<Command>> {
         for line in &mut self.lines {
-            match parse(line?.as_slice(), self.rt.alloc()) {
-                Ok(None) => {}
-                Ok(Some(Command::Setup(setup))) => say(self.rt, plan.follow(setup, board))?,
-                Ok(Some(command)) => return Ok(Some(command)),
-                Err(fault) => say(self.rt, Err(Denial::Error(fault)))?,
+            match read(self.rt, line)? {
+                None => {}
+                Some(Command::Setup(setup)) => say(self.rt, plan.follow(setup, board))?,
+                Some(command) => return Ok(Some(command)),
             }
         }
         Ok(None)
@@ -90,10 +101,8 @@ impl Console<'_> {
             say(self.rt, session.answer(command, heap))?;
         }
         for line in &mut self.lines {
-            match parse(line?.as_slice(), heap) {
-                Ok(None) => {}
-                Ok(Some(command)) => say(self.rt, session.answer(command, heap))?,
-                Err(fault) => say(self.rt, Err(Denial::Error(fault)))?,
+            if let Some(command) = read(self.rt, line)? {
+                say(self.rt, session.answer(command, heap))?;
             }
         }
         Ok(())

@@ -1,5 +1,5 @@
 -- What an image comes to: opened as job 0 of a new engine, loaded, run, and its figure told.
-use Rattle.std.specs.Prelude.{◌≡◌, ℕ, List, [], ◌∷◌, Some, None, Ok, Err, Option, Result}
+use Rattle.std.specs.Prelude.{ℕ, List, [], ◌∷◌, Some, None, Ok, Err, Option, Result}
 use Rattle.refusal.specs.declared.Refusal.{Refusal}
 use Rattle.stop.specs.declared.Stop.TheVariants.{Limit}
 use Rattle.memory.specs.Memories.{Mem}
@@ -7,8 +7,6 @@ use Rattle.registers.specs.Processors.{bank_of}
 use Rattle.runs.specs.declared.Ran.{Ran}
 use Rattle.image.specs.Files.{BlockOf, Parsed, image_of}
 use Rattle.model.specs.Calls.{asks, opens, loads, runs, abandons, Owed, Answer, refused, done, ran, saw, told}
-use Rattle.model.specs.declared.job.Job.{Job}
-use Rattle.model.specs.Acts.{judge_receipt}
 use Rattle.model.specs.Worlds.{World, Done, new_world, does}
 use Rattle.launch.specs.declared.Figure.{Figure}
 
@@ -63,11 +61,6 @@ owed_in (told s) = None
 abbrev pub settled_by : Option Owed → World → World
 settled_by None w = w
 settled_by (Some o) w = (does (asks o.job (abandons o.number)) w).world
-
--- Abandoning it is accepted.
-abbrev pub Acceptable : Option Owed → (ℕ → Job) → Type 0
-Acceptable None jobs = Unit {0}
-Acceptable (Some o) jobs = judge_receipt o.job o.number (jobs o.job) ≡ Ok tt
 
 -- The stop, the steps, and A of the bank in use.
 abbrev pub figure_of : Ran → World → Figure

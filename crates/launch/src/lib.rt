@@ -8,14 +8,14 @@ ghost use Rattle.image.specs.Parts.{left};
 ghost use Rattle.model.specs.Jobs.{is_open};
 ghost use Rattle.model.specs.Worlds.{world_of, jobs_of};
 ghost use Rattle.engine.specs.Answers.{owed_of};
+ghost use Rattle.engine.specs.Receipts.{Acceptable};
 ghost use Rattle.launch.specs.Lines.{line_of, told_line};
-ghost use Rattle.launch.specs.Launches.{loaded_by, loads_all, settled_by, Acceptable, launch_of};
+ghost use Rattle.launch.specs.Launches.{loaded_by, loads_all, settled_by, launch_of};
 
 use engine::jobs::Engine;
 use engine::receipt::{Outcome, Receipt};
 use image::{Blocks, Image};
 use memory::Memory;
-use model::job::State;
 use refusal::Refusal;
 use runs::Ran;
 use std::fmt;
@@ -37,14 +37,12 @@ impl fmt::Display for Figure {
     ghost output = { λ f. Some (line_of f) };
 
     fn fmt<W: fmt::Write>(&self, f: &mut fmt::Formatter<W>) -> fmt::Result {
-        let stop = self.stop.number();
-        let steps = self.steps;
-        let a = self.a;
-        write!(f, "stop {stop} steps {steps} a {a}")
+        let Figure { stop, steps, a } = *self;
+        write!(f, "stop {} steps {steps} a {a}", stop.number())
     }
 }
 
-// What a launch comes to.
+// What a launch comes to: a struct, so that it can be printed as a `Result` cannot.
 #[derive(Clone, Copy)]
 pub struct Told {
     pub answer: Result<Figure, Refusal>,
@@ -72,13 +70,6 @@ fn load_all<M: Memory>(engine: &Engine, memory: &mut M, blocks: Blocks) -> Resul
     Ok(())
 }
 
-// A of the bank in use.
-fn a_of(state: &State) -> u8
-    ensures { result ≡ (bank_of state.now.processor).a }
-{
-    state.processor.bank().a
-}
-
 fn figure_of(run: Ran, a: u8) -> Figure
     ensures { result ≡ record { stop = run.stop; steps = run.steps; a = a } }
 {
@@ -94,12 +85,12 @@ fn accumulator(engine: &Engine) -> u8
     requires { is_open (jobs_of engine.now.jobs 0).status ≡ true }
     ensures { result ≡ (bank_of (jobs_of engine.now.jobs 0).processor).a }
 {
-    let mut state = State::blank();
-    engine.state(0, &mut state).unwrap();
-    a_of(&state)
+    let state = engine.state_of(0).unwrap();
+    state.processor.bank().a
 }
 
 // Abandons what is owed, which is accepted. An engine, and no desk, which would keep the receipt: a desk cannot be dropped where a `?` ends the launch.
+// Crates of tests have such a function of their own: it requires something, and no public function of a library does.
 fn abandon_owed(engine: &mut Engine, receipt: Option<Receipt>)
     requires { Acceptable (owed_of receipt) (jobs_of engine.old.jobs) }
     ensures { (m : Mem) → world_of engine.new.jobs m ≡ settled_by (owed_of receipt) (world_of engine.old.jobs m) }

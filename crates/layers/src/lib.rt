@@ -1,4 +1,4 @@
-// Layers: memories that stand on another memory, a layer among them. Each gives that back by two lines of its own, fewer than a common type would have.
+// Layers: memories that stand on another memory, a layer among them.
 #![tactic(auto)]
 
 pub mod rom;

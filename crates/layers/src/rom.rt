@@ -31,7 +31,7 @@ impl<'a, M: Memory> RomLayer<'a, M> {
         }
     }
 
-    // Gives back the memory that the layer stands on.
+    // Gives back the memory that the layer stands on. Each layer has these two lines, fewer than a common type would have.
     pub fn into_below(self) -> M
         ensures { result ≡ self.entry.below }
     {

@@ -21,7 +21,7 @@ impl<M: Memory> SealLayer<M> {
         SealLayer { below, pages }
     }
 
-    // Gives back the memory that the layer stands on.
+    // Gives back the memory that the layer stands on. Each layer has these two lines, fewer than a common type would have.
     pub fn into_below(self) -> M
         ensures { result ≡ self.below }
     {

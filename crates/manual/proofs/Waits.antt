@@ -1,24 +1,22 @@
--- A run and a closing of a job that waits are refused.
-use Rattle.std.proofs.Common.{◌≡◌, ℕ, not, Some, Ok, Err, sym, refl, ap, ◌∙◌}
-use Rattle.std.proofs.lemmas.Option.{none-some}
+-- A job that waits: a run and a closing of it are refused, and what it is owed is accepted.
+use Rattle.std.proofs.Common.{◌≡◌, ℕ, not, Some, Ok, Err, Option, sym, ap, ◌∙◌, subst}
 use Rattle.refusal.specs.declared.Refusal.{Refusal}
 use Rattle.refusal.specs.declared.Ground.TheVariants.{NotOpen, JobWaiting, JobEnded}
 use Rattle.refusal.specs.Grounds.{refusal_of}
 use Rattle.refusal.specs.Judging.{when, also}
-use Rattle.stop.specs.declared.Trap.{Trap}
-use Rattle.stop.specs.declared.Trap.TheVariants.{Halt, SystemCall, Breakpoint}
-use Rattle.stop.specs.declared.Stop.{Stop}
-use Rattle.stop.specs.declared.Stop.TheVariants.{Limit, Trapped, Faulted}
 use Rattle.runs.specs.declared.Ran.{Ran}
 use Rattle.model.specs.declared.job.Job.{Job}
 use Rattle.model.specs.declared.job.Status.{Status}
 use Rattle.model.specs.declared.job.Status.TheVariants.{Waiting}
-use Rattle.model.specs.Jobs.{is_open, is_waiting, is_ended, status_after}
-use Rattle.model.specs.Calls.{Ask, asks, Owed, Answer}
-use Rattle.model.specs.Acts.{owed_by, too_many, judge_run, judge_close, judge_ask}
+use Rattle.model.specs.Jobs.{is_open, is_waiting, is_ended}
+use Rattle.model.specs.Calls.{Ask, asks, runs, Answer, ran}
+use Rattle.model.specs.Acts.{too_many, judge_run, judge_close, judge_ask}
 use Rattle.model.specs.Worlds.{World, Done, space_at, does}
 use Rattle.model.proofs.Settling.{refuses}
-use Rattle.launch.proofs.Ran.{RanSays}
+use Rattle.engine.specs.declared.receipt.Receipt.{Receipt}
+use Rattle.engine.specs.Answers.{owed_of}
+use Rattle.engine.specs.Receipts.{Acceptable}
+use Rattle.engine.proofs.Receipts.{RanSays, ran_says, ran_acceptable, owed_waits, status_waiting}
 
 -- A refused call changes no job.
 pub same_jobs : (x : Ask) (w v : World) (e : Refusal) (a : Answer) → judge_ask 0 x (w.jobs 0) (space_at w 0) ≡ Err e
@@ -32,16 +30,16 @@ waiting_judged n b e =
 pub closing_judged : (b : Job) → b.status ≡ Waiting → judge_close 0 b ≡ Err (refusal_of JobWaiting 0)
 closing_judged b e = ap (λ (s : Status). also (when (not (is_open s)) NotOpen) (also (when (is_waiting s) JobWaiting) (Ok tt))) e
 
--- A run that owes something leaves its job waiting.
-by_trap : (e : Trap) (o : Owed) (j n : ℕ) → Some o ≡ owed_by (Trapped e) j n → status_after (Trapped e) ≡ Waiting
-by_trap Halt o j n p = absurd (none-some o (sym p))
-by_trap SystemCall o j n p = refl
-by_trap Breakpoint o j n p = absurd (none-some o (sym p))
+-- A run whose receipt is given: its job waits, and what is owed is accepted.
+pub record Owing (jobs : ℕ → Job) (r : Receipt) : Type 0 where
+  pub waiting : (jobs 0).status ≡ Waiting
+  pub acceptable : Acceptable (owed_of (Some r)) jobs
 
-by_stop : (e : Stop) (o : Owed) (j n : ℕ) → Some o ≡ owed_by e j n → status_after e ≡ Waiting
-by_stop Limit o j n p = absurd (none-some o (sym p))
-by_stop (Trapped e) o j n p = by_trap e o j n p
-by_stop (Faulted e) o j n p = absurd (none-some o (sym p))
-
-pub owed_waits : (v : World) (r : Ran) (o : Owed) → RanSays 0 v r (Some o) → (v.jobs 0).status ≡ Waiting
-owed_waits v r o h = h.status ∙ by_stop r.stop o 0 (v.jobs 0).calls h.owed
+pub owing : (n : ℕ) (w v : World) (run : Ran) (x : Option Receipt) (r : Receipt) → does (asks 0 (runs n)) w ≡ record { world = v; answer = ran run (owed_of x) } → x ≡ Some r
+    → Owing v.jobs r
+owing n w v run x r p e =
+    let says : RanSays 0 w v run (owed_of (Some r)) = subst (λ (y : Option Receipt). RanSays 0 w v run (owed_of y)) e (ran_says 0 n w v run (owed_of x) p) in
+    record {
+      waiting = status_waiting (v.jobs 0).status (owed_waits run.stop 0 (v.jobs 0) (record { job = r.job; number = r.number }) says.status says.owed).waiting;
+      acceptable = ran_acceptable 0 w v run (owed_of (Some r)) says;
+    }

@@ -11,6 +11,7 @@ struct Timed {
     time: u64,
 }
 
+// A loop over rows of its own, as in the other tables of programs: what a row is compared with differs.
 fn check_times<R: Abort + AllocGlobal>(rt: &R, rows: &[Timed]) -> Result<(), Fail> {
     let mut bytes = zeros(rt)?;
     let mut board = plain(&mut bytes);

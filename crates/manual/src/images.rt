@@ -31,8 +31,7 @@ const FREIGHT: [u8; 201] = [
 fn freight(rt: HostRuntime) -> Result<(), Fail> {
     let mut bytes = zeros(&rt)?;
     let mut board = plain(&mut bytes);
-    let file = FREIGHT;
-    let figure = launch(&file, &mut board)?;
+    let figure = launch(&FREIGHT, &mut board)?;
     assert_eq!(rt;
         (figure.stop.number(), figure.steps, figure.a),
         (2, 208, 104)
@@ -49,7 +48,7 @@ fn freight(rt: HostRuntime) -> Result<(), Fail> {
     Ok(())
 }
 
-// An image, and its stop, steps and A.
+// An image, and its stop, steps and A: the stop by its number, which is what is tested.
 #[derive(Clone, Copy)]
 struct Told {
     name: &'static str,

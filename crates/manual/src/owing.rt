@@ -3,7 +3,7 @@ ghost use Rattle.std.specs.Prelude.{◌≡◌, Some};
 ghost use Rattle.model.specs.declared.job.Status.TheVariants.{Waiting};
 ghost use Rattle.model.specs.Worlds.{jobs_of};
 ghost use Rattle.engine.specs.Answers.{owed_of};
-ghost use Rattle.launch.specs.Launches.{Acceptable};
+ghost use Rattle.engine.specs.Receipts.{Acceptable};
 
 use engine::jobs::Engine;
 use engine::receipt::{Outcome, Receipt, Returned};
@@ -26,7 +26,8 @@ fn close_waiting(engine: &mut Engine) -> Result<(), Refusal>
     engine.close(0)
 }
 
-// Abandons what is owed, which is accepted.
+// Abandons what is owed, which is accepted. Each crate that ends a receipt so has these lines: this requires that, and no public function of a
+// library requires anything.
 fn abandon_owed(engine: &mut Engine, owed: Receipt)
     requires { Acceptable (owed_of (Some owed)) (jobs_of engine.old.jobs) }
 {
@@ -55,13 +56,10 @@ pub fn show_elsewhere<M: Memory>(
     let number = owed.number();
     let waiting = run_waiting(engine, memory);
     let closing = close_waiting(engine);
-    let elsewhere = match other.abandon(owed) {
-        Ok(()) => Ok(()),
-        Err(Returned { refusal, receipt }) => {
-            abandon_owed(engine, receipt);
-            Err(refusal)
-        }
-    };
+    let elsewhere = other.abandon(owed).map_err(|Returned { refusal, receipt }| {
+        abandon_owed(engine, receipt);
+        refusal
+    });
     Ok(Some(Shown {
         number,
         waiting,

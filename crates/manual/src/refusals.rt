@@ -34,7 +34,6 @@ const SAMPLE: [u8; 31] = [
 // A file that is cut off: 2 within the first five bytes, 3 at the first offset of what is incomplete.
 #[test]
 fn files_cut_off(rt: HostRuntime) -> Result<(), Fail> {
-    let sample = SAMPLE;
     for (length, refused) in [
         (0usize, (2u8, 0u32)),
         (4, (2, 0)),
@@ -47,11 +46,11 @@ fn files_cut_off(rt: HostRuntime) -> Result<(), Fail> {
         (30, (3, 22)),
     ] {
         assert!(rt; length <= 31);
-        check_refused(&rt, Image::read(&sample[0..length]), refused);
+        check_refused(&rt, Image::read(&SAMPLE[..length]), refused);
     }
     // without a block, and with one, it is complete
-    assert!(rt; Image::read(&sample[0..22]).is_ok());
-    assert!(rt; Image::read(&sample).is_ok());
+    assert!(rt; Image::read(&SAMPLE[..22]).is_ok());
+    assert!(rt; Image::read(&SAMPLE).is_ok());
     Ok(())
 }
 
@@ -102,8 +101,7 @@ fn files_too_long(rt: HostRuntime) -> Result<(), Fail> {
 // A block is a part of the file, with the offset of its header.
 #[test]
 fn blocks_of_a_file(rt: HostRuntime) -> Result<(), Fail> {
-    let sample = SAMPLE;
-    let image = Image::read(&sample)?;
+    let image = Image::read(&SAMPLE)?;
     let mut blocks = image.blocks();
     let Some(block) = blocks.next() else {
         return Err(Fail::new("no block"));
@@ -297,12 +295,11 @@ fn openings_refused(rt: HostRuntime) -> Result<(), Fail> {
         [12, 0, 0, 0, 0, 0, 0, 0, 0, 0, 0, 0, 0, 0, 0],
         0,
     )?;
-    let mut state = State::blank();
     for row in &OPENINGS {
         let answer = engine.open(&mut board, row.job, row.table, 0);
         check_answer(&rt, row.name, answer, Some(row.refused));
         assert_eq!(rt; board.read(16384), 9, "{}", row.name);
-        check_answer(&rt, row.name, engine.state(1, &mut state), Some((6, 0)));
+        check_answer(&rt, row.name, engine.state_of(1), Some((6, 0)));
     }
     Ok(())
 }
@@ -331,8 +328,7 @@ fn openings_accepted(rt: HostRuntime) -> Result<(), Fail> {
         [100, 0, 0, 0, 0, 0, 0, 0, 0, 0, 0, 0, 0, 0, 0],
         0,
     )?;
-    let mut state = State::blank();
-    engine.state(1, &mut state)?;
+    let state = engine.state_of(1)?;
     assert_eq!(rt;
         (
             board.read(16384),
@@ -549,8 +545,7 @@ fn jobs_ended(rt: HostRuntime) -> Result<(), Fail> {
         check_refused(&rt, watch(desk, &mut board, 0), (12, 0));
         check_refused(&rt, desk.open(&mut board, 0, TABLE, 0), (5, 0));
         desk.load(&mut board, 0, 0, &[1])?;
-        let mut state = State::blank();
-        desk.state(0, &mut state)?;
+        let state = desk.state_of(0)?;
         assert_eq!(rt;
             (
                 seen.run.stop.number(),
@@ -569,7 +564,6 @@ fn jobs_ended(rt: HostRuntime) -> Result<(), Fail> {
 fn receipts(rt: HostRuntime) -> Result<(), Fail> {
     let mut bytes = zeros(&rt)?;
     let mut board = plain(&mut bytes);
-    let mut state = State::blank();
     let mut engine = Engine::new();
     let mut other = Engine::new();
     for number in [6u8, 14] {
@@ -583,14 +577,13 @@ fn receipts(rt: HostRuntime) -> Result<(), Fail> {
         assert_eq!(rt; told(shown.waiting), (11, 0));
         check_refused(&rt, shown.closing, (11, 0));
         check_refused(&rt, shown.elsewhere, (number, 0));
-        check_refused(&rt, engine.state(0, &mut state), (6, 0));
+        check_refused(&rt, engine.state_of(0), (6, 0));
         if number == 6 {
             other.open(&mut board, 0, TABLE, 0)?;
         }
     }
     // the other engine's job is as it was
-    other.state(0, &mut state)?;
-    assert_eq!(rt; state.steps, 0);
+    assert_eq!(rt; other.state_of(0)?.steps, 0);
     Ok(())
 }
 

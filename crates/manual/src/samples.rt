@@ -18,10 +18,12 @@ struct Sample {
     flags: [bool; 4],
 }
 
+// The flags in a list, so that a row of the table has them in one line.
 fn listed(flags: Flags) -> [bool; 4] {
     [flags.carry, flags.zero, flags.sign, flags.parity]
 }
 
+// A loop over rows of its own, as in the other tables of programs: what a row is compared with differs.
 fn check_samples<R: Abort + AllocGlobal>(rt: &R, rows: &[Sample]) -> Result<(), Fail> {
     let mut bytes = zeros(rt)?;
     let mut board = plain(&mut bytes);

@@ -16,7 +16,7 @@ struct Stopped {
     p: u16,
 }
 
-// Stop 3 makes a job waiting, 2 and 5 to 8 end it, 1 and 4 leave it ready.
+// Stop 3 makes a job waiting, 2 and 5 to 8 end it, 1 and 4 leave it ready: by the numbers, which are what is tested.
 fn status_by(stop: u8) -> Status {
     match stop {
         1 | 4 => Status::Ready,
@@ -25,6 +25,7 @@ fn status_by(stop: u8) -> Status {
     }
 }
 
+// A loop over rows of its own, as in the other tables of programs: what a row is compared with differs.
 fn check_stops<R: Abort + AllocGlobal>(rt: &R, rows: &[Stopped]) -> Result<(), Fail> {
     let mut bytes = zeros(rt)?;
     let mut board = plain(&mut bytes);

@@ -8,7 +8,6 @@ use refusal::Refusal;
 
 pub mod numbers;
 pub mod page;
-pub mod sectors;
 pub mod sets;
 
 use page::Page;
@@ -20,7 +19,7 @@ pub trait Memory {
     fn read(&self, at: u16) -> u8
         ensures { result ≡ (mem self.now).byte at };
 
-    // Refused with 17 at the address where the page takes no writes.
+    // Refused with 17 at the address where the page takes no writes. Address and byte are two parameters, here and in a space: they meet in a write alone.
     fn write(&mut self, at: u16, b: u8) -> Result<(), Refusal>
         ensures answer { result ≡ write_answer (mem self.old) at }
         ensures after { mem self.new ≡ stored (mem self.old) at b };

@@ -1,17 +1,19 @@
-// The numbers of pages and of sectors. They are two types, and not one with a marker: with a type parameter a struct that has a ghost field
-// derives neither `Clone` nor `Copy`.
+// The numbers of pages and of sectors: one of sixteen, of memory or of a job's addresses.
 ghost use Rattle.std.specs.Prelude.{ℕ, ◌<◌};
 
-// A page of memory. It counts in memory, and is no sector.
+pub const MEMORY: u8 = 0;
+
+pub const JOB: u8 = 1;
+
+// One of sixteen parts of 4,096 addresses each. `SPACE` says of which addresses, so that a page is no sector.
 #[derive(Clone, Copy, PartialEq, Eq, Debug)]
-pub struct Page {
+pub struct Sixteenth<const SPACE: u8> {
     pub(crate) number: u8,
     ghost small: { number < 16 },
 }
 
-// A sector of a job's addresses. It counts there, and is no page.
-#[derive(Clone, Copy, PartialEq, Eq, Debug)]
-pub struct Sector {
-    pub(crate) number: u8,
-    ghost small: { number < 16 },
-}
+// A page of memory.
+pub type Page = Sixteenth<MEMORY>;
+
+// A sector of a job's addresses.
+pub type Sector = Sixteenth<JOB>;

@@ -1,6 +1,6 @@
 -- What a run did to memory is its space written back.
 use Rattle.std.proofs.lemmas.Bool.{and_from, and_parts, false_from_ne_true}
-use Rattle.std.proofs.Common.{◌≡◌, ℕ, zero, suc, ◌+◌, ◌*◌, ◌/◌, ◌%◌, ◌<◌, Bool, true, false, cond, ◌&&◌, ◌||◌, eqb, Option, sym, refl, ap, ◌∙◌, subst, arith, eqb-true}
+use Rattle.std.proofs.Common.{◌≡◌, ℕ, zero, suc, ◌+◌, ◌*◌, ◌/◌, ◌%◌, ◌<◌, Bool, true, false, cond, ◌&&◌, eqb, Option, sym, refl, ap, ◌∙◌, subst, ⊎_elim, arith, eqb-true}
 use Rattle.memory.specs.Memories.{Mem}
 use Rattle.space.specs.Cells.{Cells, Frame}
 use Rattle.registers.specs.declared.processor.Processor.{Processor}
@@ -8,7 +8,7 @@ use Rattle.table.specs.Tables.{entry_of, access_in, writing_in, cells_by, writes
 use Rattle.runs.specs.declared.Ran.{Ran}
 use Rattle.runs.specs.Runs.{Over, ran as over, run_of}
 use Rattle.pages.specs.Held.{Table, page_of, shown, bytes_of, holds, back_byte, back}
-use Rattle.pages.proofs.Truths.{clash}
+use Rattle.std.proofs.lemmas.Bool.{both_ways, or_cases}
 use Rattle.pages.proofs.Spaces.{At, named_at, shown_at, lands}
 use Rattle.model.specs.declared.job.Job.{Job}
 use Rattle.model.specs.Jobs.{ran_job}
@@ -18,22 +18,13 @@ use Rattle.model.specs.Worlds.{World, space_at, upd, settle}
 use Rattle.model.proofs.Settling.{settles}
 
 -- A page that a table lets its job write, by its sector.
-record WritesAt (t : Table) (n p i : ℕ) : Type 0 where
-  low : i < n
-  access : access_in (entry_of t i) ≡ true
-  page : page_of t i ≡ p
-
-or_true : {A : Type 0} → (a b : Bool) → (a || b) ≡ true → (a ≡ true → A) → (b ≡ true → A) → A
-or_true true b e f g = f refl
-or_true false b e f g = g e
-
-writes_some : (t : Table) (n p : ℕ) → writes t n p ≡ true → (i : ℕ) × WritesAt t n p i
-writes_some t zero p e = clash false e refl
+writes_some : (t : Table) (n p : ℕ) → writes t n p ≡ true → (i : ℕ) × At t n p i
+writes_some t zero p e = absurd (both_ways false refl e)
 writes_some t (suc n) p e =
     let acc : Bool = access_in (entry_of t n) in
     let wr : Bool = writing_in (entry_of t n) in
     let eq : Bool = eqb (page_of t n) p in
-    or_true (acc && (wr && eq)) (writes t n p) e
+    ⊎_elim
     (λ h. (
       n,
       record {
@@ -43,6 +34,7 @@ writes_some t (suc n) p e =
       },
     ))
     (λ h. let f = writes_some t n p h in (f.0, record { low = (let l : f.0 < n = f.1.low in omega arith); access = f.1.access; page = f.1.page }))
+    (or_cases (acc && (wr && eq)) (writes t n p) e)
 
 cells_shown : (t : Table) (m : Mem) → shown t m ≡ cells_by t m
 unfolding shown
@@ -63,9 +55,9 @@ module _ (t : Table) (m m' : Mem) (s : Cells) (frame : frame_by 0 t m' ≡ frame
       let p : ℕ = x / 4096 in
       bytes_kept x (false_from_ne_true (writes t 15 p && m.takes p) (λ e.
       let f = writes_some t 15 p ((and_parts (writes t 15 p) (m.takes p) e).0) in
-      clash (holds t p && m.takes p)
-      (and_from (holds t p) (m.takes p) (named_at 15 t p f.0 (record { low = f.1.low; access = f.1.access; page = f.1.page })) ((and_parts (writes t 15 p) (m.takes p) e).1))
-      h))
+      absurd (both_ways (holds t p && m.takes p)
+      h
+      (and_from (holds t p) (m.takes p) (named_at 15 t p f.0 f.1) ((and_parts (writes t 15 p) (m.takes p) e).1)))))
 
   inside : (x i : ℕ) → At t 15 (x / 4096) i → m.takes (x / 4096) ≡ true → m'.byte x ≡ bytes_of s (i * 4096 + x % 4096)
   inside x i g q = sym (ap (λ (u : Cells). (u (i * 4096 + x % 4096)).byte) (cells ∙ sym (cells_shown t m')) ∙ shown_at t m' 15 x i g)

@@ -6,20 +6,20 @@ use Rattle.refusal.proofs.Searches.{none_passes}
 use Rattle.table.specs.Tables.{Apart, entry_of, access_in}
 use Rattle.pages.specs.Held.{Table, page_of, named, holds}
 use Rattle.pages.specs.Entries.{again_at}
-use Rattle.pages.proofs.Truths.{clash}
+use Rattle.std.proofs.lemmas.Bool.{both_ways}
 use Rattle.pages.proofs.Spaces.{named_at, access_low}
 use Rattle.model.specs.declared.job.Job.{Job}
 use Rattle.model.specs.Worlds.{any, held_by, twice}
 
 none_there : (o : Option ℕ) → is_some o ≡ false → o ≡ None
-none_there (Some n) e = clash true refl e
+none_there (Some n) e = absurd (both_ways true e refl)
 none_there None e = refl
 
 no_lower : (t : Table) → twice t ≡ false → (i l : ℕ) → i < l → access_in (entry_of t i) ≡ true → access_in (entry_of t l) ≡ true → page_of t i ≡ page_of t l → ⊥
 no_lower t one i l h a b e =
-    clash (again_at t l)
-    (and_from (access_in (entry_of t l)) (named l t (page_of t l)) b (named_at l t (page_of t l) i (record { low = h; access = a; page = e })))
+    absurd (both_ways (again_at t l)
     (let low : l < 15 = access_low t l b in none_passes (again_at t) 15 0 (none_there (first_from 15 0 (again_at t)) one) l (omega arith) (omega arith))
+    (and_from (access_in (entry_of t l)) (named l t (page_of t l)) b (named_at l t (page_of t l) i (record { low = h; access = a; page = e }))))
 
 pub once_apart : (t : Table) → twice t ≡ false → Apart t
 once_apart t one i l h =
@@ -27,7 +27,7 @@ once_apart t one i l h =
     let k : ¬ (l < i) = λ q. no_lower t one l i q h.1 h.0 (sym h.2) in
     omega arith
 
-any_more : (n : ℕ) (f : ℕ → Bool) → any (n + 1) f ≡ (f n || any n f)
+pub any_more : (n : ℕ) (f : ℕ → Bool) → any (n + 1) f ≡ (f n || any n f)
 unfolding any
 any_more n f = rw add-one
 

@@ -27,6 +27,7 @@ impl fmt::Display for Status {
 }
 
 // A job's record: its processor and table, the steps, nanoseconds and system calls since its opening, and its status.
+// A job that is not open is a record too, and no `None`: what is said of all eight jobs is said of records alone.
 #[derive(Clone, Copy)]
 pub struct Job {
     pub processor: Processor,
@@ -48,7 +49,8 @@ pub struct State {
     pub status: Status,
 }
 
-// The eight registers of a bank, as a reply gives them: without flags, which is why it is no `Bank`.
+// The eight registers of a bank, as a reply gives them: without flags, which is why it is no `Bank`. A `Bank` that held them as one field
+// would read `bank.registers.a` in every definition of an instruction.
 #[derive(Clone, Copy, PartialEq, Eq, Debug, Default)]
 pub struct Registers {
     pub a: u8,

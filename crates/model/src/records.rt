@@ -33,10 +33,7 @@ impl Status {
 pub fn calls_in(stop: Stop) -> u32
     ensures { result ≡ calls_in stop }
 {
-    match stop {
-        Stop::Trapped(Trap::SystemCall) => 1,
-        Stop::Limit | Stop::Trapped(_) | Stop::Faulted(_) => 0,
-    }
+    u32::from(stop == Stop::Trapped(Trap::SystemCall))
 }
 
 // What a stop makes of the job.

@@ -16,7 +16,7 @@ impl Charge {
         ensures { result ≡ charge_of high middle low }
     {
         Charge {
-            cents: u64::from(high) * 65536 + u64::from(middle) * 256 + u64::from(low),
+            cents: u64::from(u32::from_be_bytes([0, high, middle, low])),
         }
     }
 

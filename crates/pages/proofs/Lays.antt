@@ -1,6 +1,7 @@
 -- A load, a byte at a time.
-use Rattle.std.proofs.Common.{◌≡◌, ℕ, ◌+◌, ◌-◌, ◌*◌, ◌/◌, ◌%◌, ◌<◌, ◌≤◌, Bool, true, false, cond, ◌&&◌, eqb, ltb, leb, List, length, get_or, None, Ok, sym, refl, ap, ◌∙◌, arith, eq-eqb, ne_eqb, eqb-true}
+use Rattle.std.proofs.Common.{◌≡◌, ℕ, ◌+◌, ◌-◌, ◌*◌, ◌/◌, ◌%◌, ◌<◌, ◌≤◌, Bool, true, false, cond, ◌&&◌, eqb, ltb, leb, List, length, get_or, None, Ok, sym, refl, ap, ◌∙◌, arith, eq-eqb, ne_eqb, eqb-true, ⊎_elim}
 use mathlib.Core.Path.{fun_ext}
+use Rattle.std.specs.Cmp.{both_ways as same_answer}
 use borrow.Author.Tests.{eqb-false}
 use Rattle.std.proofs.lemmas.Bool.{not-false, ltb-false, and_from, and_parts}
 use Rattle.std.proofs.lemmas.Bool.Decides.{nat_tests}
@@ -14,7 +15,7 @@ use Rattle.table.proofs.Places.{one_place}
 use Rattle.pages.specs.Held.{Table, page_of, shown, bytes_of, holds, back, back_byte}
 use Rattle.pages.specs.Entries.{shut_at, refuses_at}
 use Rattle.pages.specs.Loads.{past, judge_load, laid_to, laid}
-use Rattle.pages.proofs.Truths.{clash, by_test}
+use Rattle.std.proofs.lemmas.Bool.{both_ways, cases_Bool}
 use Rattle.pages.proofs.Spaces.{lands, shown_at, place_page, holds_at}
 use Rattle.pages.proofs.Clears.{with_bytes}
 use Rattle.refusal.proofs.Judgements.{passed, nowhere}
@@ -46,7 +47,7 @@ pick_one true q r b v h g = ap (λ z. cond z b v) (h refl)
 pick_one false q r b v h g = ap (λ z. cond z b 0) (sym (g refl))
 
 same_test : (a b c d : ℕ) → (a ≡ b → c ≡ d) → (c ≡ d → a ≡ b) → eqb a b ≡ eqb c d
-same_test a b c d f g = by_test (eqb c d) (λ e. eq-eqb a b (g (eqb-true c d e)) ∙ sym e) (λ e. ne_eqb a b (λ h. eqb-false c d e (f h)) ∙ sym e)
+same_test a b c d f g = same_answer (eqb a b) (eqb c d) (λ e. eq-eqb c d (f (eqb-true a b e))) (λ e. eq-eqb a b (g (eqb-true c d e)))
 
 put_shown : (t : Table) → Apart t → (m : Mem) (a b : ℕ) → access_in (entry_of t (a / 4096)) ≡ true
     → bytes_of (shown t (with_bytes m (put m.byte (physical t a) b))) ≡ put (bytes_of (shown t m)) a b
@@ -55,7 +56,7 @@ put_shown t once m a b acc =
     fun_ext
     (λ x. pick_one (access_in (entry_of t (x / 4096))) (eqb x a) (eqb (physical t x) (physical t a)) b (m.byte (physical t x))
     (λ h. same_test (physical t x) (physical t a) x a (one_place t once x a h acc) (ap (physical t)))
-    (λ h. ne_eqb x a (λ e. clash (access_in (entry_of t (x / 4096))) (ap (λ y. access_in (entry_of t (y / 4096))) e ∙ acc) h)))
+    (λ h. ne_eqb x a (λ e. absurd (both_ways (access_in (entry_of t (x / 4096))) h (ap (λ y. access_in (entry_of t (y / 4096))) e ∙ acc)))))
 
 laid_none : (a : ℕ) (bs : List ℕ) (m : ℕ → ℕ) → laid_to 0 a bs m ≡ m
 unfolding laid_to
@@ -65,9 +66,10 @@ laid_more : (n a : ℕ) (bs : List ℕ) (m : ℕ → ℕ) → put (laid_to n a b
 unfolding laid_to
 laid_more n a bs m =
     fun_ext
-    (λ x. by_test (eqb x (a + n))
+    (λ x. ⊎_elim
     (λ e. let q : x ≡ a + n = eqb-true x (a + n) e in let i : x - a ≡ n = omega arith in ap (λ z. cond z (get_or bs n 0) (laid_to n a bs m x)) e ∙ here x q i)
-    (λ e. let d = eqb-false x (a + n) e in grind (arith, nat_tests, d)))
+    (λ e. let d = eqb-false x (a + n) e in grind (arith, nat_tests, d))
+    (cases_Bool (eqb x (a + n))))
   where
     here : (x : ℕ) → x ≡ a + n → x - a ≡ n → get_or bs n 0 ≡ cond (leb a x && ltb x (a + (n + 1))) (get_or bs (x - a) 0) (m x)
     here x q i = let r : get_or bs (x - a) 0 ≡ get_or bs n 0 = ap (λ y. get_or bs y 0) i in grind (arith, nat_tests)
@@ -106,8 +108,8 @@ module _ (t : Table) (once : Apart t) (a : ℕ) (bs : List ℕ) (m₀ : Mem) (fi
             ap (λ (n : Mem). n.byte x) e
             ∙ ap (λ z. cond z (get_or bs i 0) (m.byte x)) (ne_eqb x (physical t (a + i)) (λ r.
             let page : x / 4096 ≡ page_of t ((a + i) / 4096) = ap (λ y. y / 4096) r ∙ place_page t (a + i) in
-            clash (holds t (x / 4096) && m₀.takes (x / 4096))
-            (and_from (holds t (x / 4096)) (m₀.takes (x / 4096)) (ap (holds t) page ∙ holds_at t ((a + i) / 4096) (access_here h)) (ap m₀.takes page ∙ takes_here h)) q))
+            absurd (both_ways (holds t (x / 4096) && m₀.takes (x / 4096)) q
+            (and_from (holds t (x / 4096)) (m₀.takes (x / 4096)) (ap (holds t) page ∙ holds_at t ((a + i) / 4096) (access_here h)) (ap m₀.takes page ∙ takes_here h)))))
             ∙ L.rest x q;
       }
 

@@ -1,4 +1,3 @@
-pub mod Truths
 pub mod Spaces
 pub mod Clears
 pub mod Lays

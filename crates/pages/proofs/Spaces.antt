@@ -1,13 +1,13 @@
 -- The algebra of a space that is written back.
 use Rattle.std.proofs.lemmas.Bool.{and_from, and_parts}
-use Rattle.std.proofs.Common.{◌≡◌, ℕ, zero, suc, ◌+◌, ◌*◌, ◌/◌, ◌%◌, ◌<◌, Bool, true, false, cond, ◌&&◌, eqb, ◌≢◌, sym, refl, ap, ◌∙◌, arith, eq-eqb, eqb-true}
+use Rattle.std.proofs.Common.{◌≡◌, ℕ, zero, suc, ◌+◌, ◌*◌, ◌/◌, ◌%◌, ◌<◌, Bool, true, false, cond, ◌&&◌, eqb, ◌≢◌, sym, refl, ap, ◌∙◌, arith, eq-eqb, eqb-true, ⊎_elim}
 use mathlib.Core.Path.{fun_ext}
 use borrow.Author.Tests.{eqb-false}
 use Rattle.memory.specs.Memories.{Mem}
 use Rattle.space.specs.Cells.{Cell}
 use Rattle.table.specs.Tables.{Apart, entry_of, access_in, physical}
 use Rattle.pages.specs.Held.{Table, page_of, bytes_of, shown, Where, nowhere, sector, finds, is_there, named, holds, pick, back_byte, back, clip}
-use Rattle.pages.proofs.Truths.{clash, by_test}
+use Rattle.std.proofs.lemmas.Bool.{both_ways, cases_Bool}
 
 -- What is found is a sector that has access to the page.
 pub record At (t : Table) (n p i : ℕ) : Type 0 where
@@ -24,11 +24,12 @@ lower t n p i a = record { low = (let h : i < n = a.low in omega arith); access 
 
 wider : (t : Table) (n p : ℕ) (f : Where) → (access_in (entry_of t n) && eqb (page_of t n) p) ≡ false → Good t n p f → Good t (suc n) p f
 wider t n p nowhere e g = λ i a.
-    by_test (eqb i n)
-    (λ q. clash (access_in (entry_of t n) && eqb (page_of t n) p)
-    (and_from (access_in (entry_of t n)) (eqb (page_of t n) p) (ap (λ x. access_in (entry_of t x)) (sym (eqb-true i n q)) ∙ a.access) (eq-eqb (page_of t n) p (ap (page_of t) (sym (eqb-true i n q)) ∙ a.page)))
-    e)
+    ⊎_elim
+    (λ q. absurd (both_ways (access_in (entry_of t n) && eqb (page_of t n) p)
+    e
+    (and_from (access_in (entry_of t n)) (eqb (page_of t n) p) (ap (λ x. access_in (entry_of t x)) (sym (eqb-true i n q)) ∙ a.access) (eq-eqb (page_of t n) p (ap (page_of t) (sym (eqb-true i n q)) ∙ a.page)))))
     (λ q. g i (record { low = (let ne : i ≢ n = eqb-false i n q in let h : i < suc n = a.low in omega arith); access = a.access; page = a.page }))
+    (cases_Bool (eqb i n))
 wider t n p (sector i) e g = lower t n p i g
 
 pub found : (t : Table) (n p : ℕ) → Good t n p (finds t n p)
@@ -59,7 +60,7 @@ unfolding named
 named_some n t p e = go (finds t n p) (found t n p) e
   where
     go : (f : Where) → Good t n p f → is_there f ≡ true → (i : ℕ) × At t n p i
-    go nowhere g e' = clash false e' refl
+    go nowhere g e' = absurd (both_ways false refl e')
     go (sector l) g e' = (l, g)
 
 pub access_low : (t : Table) (i : ℕ) → access_in (entry_of t i) ≡ true → i < 15
@@ -98,7 +99,7 @@ back_else t bs m x e = go (m.takes (x / 4096)) (finds t 15 (x / 4096)) e
     go : (z : Bool) (f : Where) → (is_there f && z) ≡ false → cond z (pick f bs (x % 4096) (m.byte x)) (m.byte x) ≡ m.byte x
     go false f q = refl
     go true nowhere q = refl
-    go true (sector i) q = clash true refl q
+    go true (sector i) q = absurd (both_ways true q refl)
 
 pub back_all : (P : ℕ → Type 0) (t : Table) (bs : ℕ → ℕ) (m : Mem) (x : ℕ)
     → ((holds t (x / 4096) && m.takes (x / 4096)) ≡ false → P (m.byte x))
@@ -118,9 +119,9 @@ pub back_at : (t : Table) (bs : ℕ → ℕ) (m : Mem) (a : ℕ) → Apart t →
     → back_byte t bs m (physical t a) ≡ bs a
 back_at t bs m a once acc tk =
     back_all (λ v. v ≡ bs a) t bs m (physical t a)
-    (λ e. clash (holds t (physical t a / 4096) && m.takes (physical t a / 4096))
-    (and_from (holds t (physical t a / 4096)) (m.takes (physical t a / 4096)) (ap (holds t) (place_page t a) ∙ holds_at t (a / 4096) acc) (ap m.takes (place_page t a) ∙ tk))
-    e)
+    (λ e. absurd (both_ways (holds t (physical t a / 4096) && m.takes (physical t a / 4096))
+    e
+    (and_from (holds t (physical t a / 4096)) (m.takes (physical t a / 4096)) (ap (holds t) (place_page t a) ∙ holds_at t (a / 4096) acc) (ap m.takes (place_page t a) ∙ tk))))
     (λ i g e. let same : i ≡ a / 4096 = once i (a / 4096) (g.access, acc, g.page ∙ place_page t a) in
     ap bs (ap (λ y. y * 4096 + physical t a % 4096) same ∙ ap (λ y. a / 4096 * 4096 + y) (place_off t a) ∙ split a))
 

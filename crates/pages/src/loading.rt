@@ -1,4 +1,4 @@
-// What a load does to memory.
+// What a load does to memory. Address and bytes stay two parameters, as the call has them: a struct of both would be taken apart at once.
 ghost use Rattle.std.specs.Prelude.{◌≡◌, ℕ, ◌/◌, Bool, not};
 ghost use Rattle.pages.specs.Held.{shown, bytes_of, back};
 ghost use Rattle.pages.specs.Entries.{shut_at, refuses_at};

@@ -9,7 +9,6 @@ use Rattle.times.specs.Times.{time_of}
 use Rattle.processor.specs.declared.Done.{Done}
 use Rattle.processor.specs.declared.effects.Carried.{Carried}
 use Rattle.processor.specs.declared.fetching.Fetched.{Fetched}
-use Rattle.processor.specs.declared.fetching.Operand.{Operand}
 use Rattle.processor.specs.Fetches.{fetch_of, operand_of}
 use Rattle.processor.specs.Effects.{Effect, effect_of}
 
@@ -27,15 +26,15 @@ abbrev pub settled : Result Carried Fault → Instruction → ℕ → Processor 
 settled (Ok d) x at c s = stepped (Ok (record { time = time_of x d.course; trap = d.trap })) c s
 settled (Err e) x at c s = stepped (Err e) (with_p c at) s
 
-abbrev pub carried_out : Result Operand Fault → Instruction → Processor → Cells → Stepped
+abbrev pub carried_out : Result (Fetched ℕ) Fault → Instruction → Processor → Cells → Stepped
 carried_out (Err e) x c s = stepped (Err e) c s
 carried_out (Ok o) x c s =
     let y : Effect = effect_of x o.value (with_p c o.next) s in
     settled y.answer x c.p y.cpu y.cells
 
-abbrev pub decoded : Result Fetched Fault → Processor → Cells → Stepped
+abbrev pub decoded : Result (Fetched Instruction) Fault → Processor → Cells → Stepped
 decoded (Err e) c s = stepped (Err e) c s
-decoded (Ok f) c s = carried_out (operand_of f.instruction s f.next) f.instruction c s
+decoded (Ok f) c s = carried_out (operand_of f.value s f.next) f.value c s
 
 abbrev pub step_of : Processor → Cells → Stepped
 step_of c s = decoded (fetch_of s c.p) c s

@@ -1,4 +1,5 @@
-// The processor: one step over any space. As in the block instructions, the state and the space stay two parameters.
+// The processor: one step over any space. As in the block instructions, the state and the space stay two parameters: of a struct of both
+// loans each function would have to say that it keeps them the same loans.
 #![tactic(auto)]
 
 ghost use Rattle.std.specs.Prelude.{◌≡◌};
@@ -14,7 +15,8 @@ use space::Space;
 use stop::{Fault, Trap};
 use times::time_of;
 
-// A step that counts: its time in nanoseconds, and how it ends the run, if it does.
+// A step that counts: its time in nanoseconds, and how it ends the run, if it does. `Carried` has a trap too, beside what the time depends
+// on: as one generic type its other field would have no name.
 #[derive(Clone, Copy)]
 pub struct Done {
     pub time: u32,
@@ -28,11 +30,12 @@ pub fn step<S: Space>(cpu: &mut Processor, space: &mut S) -> Result<Done, Fault>
 {
     let at = cpu.p;
     let fetched = fetch(space, at)?;
-    let operand = fetch_operand(space, fetched.instruction, fetched.next)?;
+    let operand = fetch_operand(space, fetched.value, fetched.next)?;
     cpu.p = operand.next;
-    match execute(cpu, space, fetched.instruction, operand.value) {
+    // Tried as `inspect_err` that puts P back: what the processor is where the closure is not called stays open.
+    match execute(cpu, space, fetched.value, operand.value) {
         Ok(carried) => Ok(Done {
-            time: time_of(fetched.instruction, carried.course),
+            time: time_of(fetched.value, carried.course),
             trap: carried.trap,
         }),
         Err(fault) => {

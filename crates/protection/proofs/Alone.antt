@@ -9,7 +9,7 @@ use Rattle.memory.specs.Memories.{Mem}
 use Rattle.space.specs.Cells.{Cells}
 use Rattle.table.specs.Tables.{Apart}
 use Rattle.pages.specs.Held.{Table, shown, back, clip}
-use Rattle.pages.proofs.Truths.{clash}
+use Rattle.std.proofs.lemmas.Bool.{both_ways}
 use Rattle.pages.proofs.Spaces.{local}
 use Rattle.model.specs.declared.job.Job.{Job}
 use Rattle.model.specs.Jobs.{is_open, opened_job}
@@ -58,8 +58,8 @@ is_act (opens j t start) w o =
 is_act (asks j x) w o = refl
 
 again_law : (j : ℕ) (t : Table) (start : ℕ) (b : Job) (s : Cells) (z : Judgement) → Law (ends (opens j t start)) b (open_again z b s)
-again_law j t start b s (Ok u) = record { goes = λ q. (refl, refl); gone = λ q. clash false q refl }
-again_law j t start b s (Err e) = record { goes = λ q. (refl, refl); gone = λ q. clash false q refl }
+again_law j t start b s (Ok u) = record { goes = λ q. (refl, refl); gone = λ q. absurd (both_ways false refl q) }
+again_law j t start b s (Err e) = record { goes = λ q. (refl, refl); gone = λ q. absurd (both_ways false refl q) }
 
 law : (c : Call) (b : Job) (s : Cells) → Law (ends c) b (acts_on c b s)
 law (opens j t start) b s = again_law j t start b s (refused_opening j)
@@ -238,7 +238,7 @@ solo_whole (c ∷ cs) b s e = ap (λ ds. c ∷ ds) (go (ends c (solo c b s).answ
     go : (z : Bool) → (endless (solo_said cs (solo c b s).job (solo c b s).space) ≡ true → calls_of (solo_said cs (solo c b s).job (solo c b s).space) ≡ cs)
         → (not z && endless (cond z [] (solo_said cs (solo c b s).job (solo c b s).space))) ≡ true
         → calls_of (cond z [] (solo_said cs (solo c b s).job (solo c b s).space)) ≡ cs
-    go true h q = clash false q refl
+    go true h q = absurd (both_ways false refl q)
     go false h q = h q
 
 module _ (j : ℕ) (v w : World) (I : Inv v) (J : Inv w) (o : is_open (v.jobs j).status ≡ true) (same : rest_at v j ≡ rest_at w j) (cs ds : List Call) where

@@ -5,7 +5,7 @@ use Rattle.memory.specs.Memories.{Mem}
 use Rattle.space.specs.Cells.{Cell, Cells}
 use Rattle.table.specs.Tables.{Apart, entry_of, access_in, writing_in, physical}
 use Rattle.pages.specs.Held.{Table, page_of, bytes_of, shown, holds, back_byte, back, clip}
-use Rattle.pages.proofs.Truths.{clash}
+use Rattle.std.proofs.lemmas.Bool.{both_ways}
 use Rattle.pages.proofs.Spaces.{named_some, holds_at, place_page, back_all, shown_same, local, shown_at}
 
 -- A page that both have access to takes no writes.
@@ -20,7 +20,7 @@ pub aside : (t u : Table) (bs : ℕ → ℕ) (m : Mem) → Aside m t u → shown
 aside t u bs m h =
     shown_same u m.takes (back_byte t bs m) m.byte
     (λ a acc. back_all (λ v. v ≡ m.byte (physical u a)) t bs m (physical u a) (λ e. refl)
-    (λ i g e. clash (m.takes (physical u a / 4096)) e (ap m.takes (sym g.page) ∙ h i (a / 4096) g.access acc (g.page ∙ place_page u a))))
+    (λ i g e. absurd (both_ways (m.takes (physical u a / 4096)) (ap m.takes (sym g.page) ∙ h i (a / 4096) g.access acc (g.page ∙ place_page u a)) e)))
 
 -- A space tells the bytes of its pages.
 pub shown_tells : (t : Table) (m n : Mem) → shown t m ≡ shown t n → (x : ℕ) → holds t (x / 4096) ≡ true → m.byte x ≡ n.byte x

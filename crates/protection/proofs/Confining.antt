@@ -9,7 +9,7 @@ use Rattle.table.proofs.Places.{named}
 use Rattle.runs.specs.Runs.{run_of}
 use Rattle.runs.proofs.Kept.{run_quiet}
 use Rattle.pages.specs.Held.{Table, shown, bytes_of}
-use Rattle.pages.proofs.Truths.{clash}
+use Rattle.std.proofs.lemmas.Bool.{both_ways}
 use Rattle.pages.proofs.Spaces.{At, in_sector, shown_at, back_all, back_else}
 use Rattle.model.specs.declared.job.Job.{Job}
 use Rattle.model.specs.Jobs.{opened_job}
@@ -53,8 +53,8 @@ run_byte t m n c x i h g q =
     (run_quiet n 0 0 c (shown t m) a).byte
     (false_from_ne_true (acc && (acc && wr)) (λ p.
     let writing : writing_in (entry_of t i) ≡ true = ap writing_in (sym here) ∙ (and_parts (writing_in e) (m.takes (page_in e)) ((and_parts acc wr ((and_parts acc (acc && wr) p).1)).1)).0 in
-    clash (writes t 15 (x / 4096) && m.takes (x / 4096))
-    (and_from (writes t 15 (x / 4096)) (m.takes (x / 4096)) (ap (writes t 15) (sym g.page) ∙ named t 15 i g.low g.access writing) q) h))
+    absurd (both_ways (writes t 15 (x / 4096) && m.takes (x / 4096)) h
+    (and_from (writes t 15 (x / 4096)) (m.takes (x / 4096)) (ap (writes t 15) (sym g.page) ∙ named t 15 i g.low g.access writing) q))))
     ∙ shown_at t m 15 x i g
 
 pub confined_run : ConfinedRun

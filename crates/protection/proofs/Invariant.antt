@@ -1,17 +1,17 @@
 -- What a list of calls on a new engine keeps: no table names a page twice, a page that two jobs hold takes no writes, and only the eight jobs hold any.
-use Rattle.std.proofs.Common.{◌≡◌, ℕ, zero, suc, ◌<◌, ◌≤◌, Bool, true, false, cond, not, ◌&&◌, ◌||◌, eqb, ltb, ◌≢◌, List, [], ◌∷◌, get_or, replicate, is_some, Ok, Err, sym, refl, ap, ◌∙◌, subst, arith, ne_eqb, eqb-true}
+use Rattle.std.proofs.Common.{◌≡◌, ℕ, ◌<◌, ◌≤◌, Bool, true, false, cond, not, ◌&&◌, eqb, ltb, ◌≢◌, List, [], ◌∷◌, get_or, replicate, is_some, Ok, Err, sym, refl, ap, ◌∙◌, subst, arith, ne_eqb, eqb-true, ⊎_elim}
 use borrow.Author.Tests.{eqb-false}
-use Rattle.std.proofs.lemmas.Bool.{ltb-false, and_from, false_from_ne_true, or_right}
+use Rattle.std.proofs.lemmas.Bool.{ltb-false, and_from, false_from_ne_true}
 use Rattle.refusal.specs.declared.Ground.TheVariants.{AlreadyOpen, ReservedBits, PageNamedTwice, PageNotWritable, PageHeld}
 use Rattle.refusal.specs.declared.Refusal.{Refusal}
 use Rattle.refusal.specs.Judging.{Judgement, when, at, first_from}
-use Rattle.refusal.proofs.Searches.{none_passes}
+use Rattle.refusal.proofs.Searches.{none_passes, passes}
 use Rattle.memory.specs.Memories.{Mem}
 use Rattle.space.specs.Cells.{Cells}
 use Rattle.table.specs.Tables.{Apart, entry_of, access_in}
 use Rattle.pages.specs.Held.{Table, page_of, shown, holds, back}
 use Rattle.pages.specs.Entries.{reserved_at, again_at, fixed_at}
-use Rattle.pages.proofs.Truths.{clash, by_test}
+use Rattle.std.proofs.lemmas.Bool.{both_ways, cases_Bool}
 use Rattle.pages.proofs.Spaces.{access_low, holds_at}
 use Rattle.model.specs.declared.job.Job.{Job}
 use Rattle.model.specs.Jobs.{closed_job, opened_job, is_open}
@@ -19,7 +19,7 @@ use Rattle.model.specs.Calls.{Call, opens, asks, names, Answer, refused, ends}
 use Rattle.model.specs.Acts.{Left, Act, no_such_job, act_of}
 use Rattle.model.specs.Worlds.{World, Done, space_at, upd, on_job, any, held_by, held_at, judge_open, opened, unless_open, does, no_job, new_world}
 use Rattle.model.proofs.Settling.{upd_other}
-use Rattle.model.proofs.Tables.{once_apart}
+use Rattle.model.proofs.Tables.{once_apart, any_more}
 use Rattle.protection.specs.Histories.{after}
 use Rattle.protection.proofs.Asides.{Aside, aside_sym, aside}
 use Rattle.protection.proofs.Lawful.{Law, act_law}
@@ -60,9 +60,9 @@ shut_access i = let e : ◌≡◌ {A = ℕ} (get_or (replicate 15 0) i 0) 0 = re
 
 fits_shut : (w : World) (j : ℕ) → Fits w j closed_job.table
 fits_shut w j = record {
-  once = λ i l h. clash (access_in (entry_of closed_job.table i)) h.0 (shut_access i);
-  aside = λ k e i l a. clash (access_in (entry_of closed_job.table i)) a (shut_access i);
-  low = λ i a. clash (access_in (entry_of closed_job.table i)) a (shut_access i);
+  once = λ i l h. absurd (both_ways (access_in (entry_of closed_job.table i)) (shut_access i) h.0);
+  aside = λ k e i l a. absurd (both_ways (access_in (entry_of closed_job.table i)) (shut_access i) a);
+  low = λ i a. absurd (both_ways (access_in (entry_of closed_job.table i)) (shut_access i) a);
 }
 
 fits_self : (w : World) → Inv w → (j : ℕ) → Fits w j (w.jobs j).table
@@ -74,9 +74,10 @@ inv_act over f law j w I =
     let x : Left = f (w.jobs j) (space_at w j) in
     let L : Law over (w.jobs j) x = law (w.jobs j) (space_at w j) in
     inv_put w I j x.job (w.jobs j).table x.bytes
-    (by_test (over x.answer)
+    (⊎_elim
     (λ e. subst (λ (b : Job). Fits w j b.table) (sym (L.gone e)) (fits_shut w j))
-    (λ e. subst (λ (t : Table). Fits w j t) (sym (L.goes e).0) (fits_self w I j)))
+    (λ e. subst (λ (t : Table). Fits w j t) (sym (L.goes e).0) (fits_self w I j))
+    (cases_Bool (over x.answer)))
 
 -- What is left of a job that a call does not name: its record and its space.
 pub record Leaves (i : ℕ) (v w : World) : Type 0 where
@@ -112,12 +113,7 @@ open_says j t w p =
 -- `any`, by one that passes.
 any_at : (n : ℕ) (f : ℕ → Bool) (k : ℕ) → k < n → f k ≡ true → any n f ≡ true
 unfolding any
-any_at zero f k h e = absurd (omega arith)
-any_at (suc n) f k h e = go (eqb k n) refl (λ l. any_at n f k l e)
-  where
-    go : (b : Bool) → eqb k n ≡ b → (k < n → any n f ≡ true) → (f n || any n f) ≡ true
-    go true q r = ap (λ b. b || any n f) (ap f (sym (eqb-true k n q)) ∙ e)
-    go false q r = or_right (f n) (any n f) (r (let ne : k ≢ n = eqb-false k n q in omega arith))
+any_at n f k h e = passes f (λ n. any n f) refl (λ n. any_more n f) n k h e
 
 -- A table whose pages no other job holds, unless they take no writes.
 free_aside : (j : ℕ) (t : Table) (w : World) → Inv w → Opens j t w → (k : ℕ) → k ≢ j → Aside w.mem t (w.jobs k).table
@@ -127,9 +123,9 @@ free_aside j t w I o k ne i l a b e =
     let held : held_by 8 w.jobs j (page_of t i) ≡ true =
     any_at 8 (λ n. not (eqb n j) && holds (w.jobs n).table (page_of t i)) k (I.low k l b)
     (and_from (not (eqb k j)) (holds (w.jobs k).table (page_of t i)) (ap not (ne_eqb k j ne)) (ap (holds (w.jobs k).table) e ∙ holds_at (w.jobs k).table l b)) in
-    clash (held_at w.jobs w.mem.takes j t i)
-    (and_from (access_in (entry_of t i)) (w.mem.takes (page_of t i) && held_by 8 w.jobs j (page_of t i)) a (and_from (w.mem.takes (page_of t i)) (held_by 8 w.jobs j (page_of t i)) q held))
-    (o.free i (access_low t i a)))
+    absurd (both_ways (held_at w.jobs w.mem.takes j t i)
+    (o.free i (access_low t i a))
+    (and_from (access_in (entry_of t i)) (w.mem.takes (page_of t i) && held_by 8 w.jobs j (page_of t i)) a (and_from (w.mem.takes (page_of t i)) (held_by 8 w.jobs j (page_of t i)) q held))))
 
 -- An opening is accepted, with what that says, or leaves the world.
 pub open_all : (Q : Done → Type 0) (j : ℕ) (t : Table) (start : ℕ) (w : World)
@@ -171,9 +167,9 @@ all_shut k i = seats (λ b. access_in (entry_of b.table i) ≡ false) (shut_acce
 
 pub inv_new : (m : Mem) → Inv (new_world m)
 inv_new m = record {
-  once = λ j i l h. clash (access_in (entry_of ((new_world m).jobs j).table i)) h.0 (all_shut j i);
-  aside = λ i j ne n l a. clash (access_in (entry_of ((new_world m).jobs i).table n)) a (all_shut i n);
-  low = λ j i a. clash (access_in (entry_of ((new_world m).jobs j).table i)) a (all_shut j i);
+  once = λ j i l h. absurd (both_ways (access_in (entry_of ((new_world m).jobs j).table i)) (all_shut j i) h.0);
+  aside = λ i j ne n l a. absurd (both_ways (access_in (entry_of ((new_world m).jobs i).table n)) (all_shut i n) a);
+  low = λ j i a. absurd (both_ways (access_in (entry_of ((new_world m).jobs j).table i)) (all_shut j i) a);
 }
 
 pub inv_after : (cs : List Call) (w : World) → Inv w → Inv (after cs w)

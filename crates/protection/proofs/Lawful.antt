@@ -5,7 +5,7 @@ use Rattle.refusal.specs.declared.Refusal.{Refusal}
 use Rattle.refusal.specs.Judging.{Judgement, when, also}
 use Rattle.space.specs.Cells.{Cells}
 use Rattle.runs.specs.Runs.{run_of}
-use Rattle.pages.proofs.Truths.{clash}
+use Rattle.std.proofs.lemmas.Bool.{both_ways}
 use Rattle.model.specs.declared.job.Job.{Job}
 use Rattle.model.specs.Jobs.{closed_job, is_open}
 use Rattle.model.specs.Calls.{Ask, loads, runs, replies, abandons, looks, states, closes, Answer, refused, accepted, closing, asks, ends}
@@ -19,10 +19,10 @@ pub record Law (over : Answer → Bool) (b : Job) (x : Left) : Type 0 where
   pub gone : over x.answer ≡ true → x.job ≡ closed_job
 
 stays : (over : Answer → Bool) (b : Job) (x : Left) → over x.answer ≡ false → x.job.table ≡ b.table → is_open x.job.status ≡ is_open b.status → Law over b x
-stays over b x e t o = record { goes = λ q. (t, o); gone = λ q. clash (over x.answer) q e }
+stays over b x e t o = record { goes = λ q. (t, o); gone = λ q. absurd (both_ways (over x.answer) e q) }
 
 closed : (over : Answer → Bool) (b : Job) (x : Left) → over x.answer ≡ true → x.job ≡ closed_job → Law over b x
-closed over b x e c = record { goes = λ q. clash (over x.answer) e q; gone = λ q. c }
+closed over b x e c = record { goes = λ q. absurd (both_ways (over x.answer) q e); gone = λ q. c }
 
 -- An accepted call finds its job open.
 found_open : (z : Bool) → when (not z) NotOpen ≡ Ok tt → z ≡ true

@@ -4,7 +4,7 @@ use Rattle.refusal.specs.Judging.{first_from}
 use Rattle.memory.specs.Memories.{Mem}
 use Rattle.pages.specs.Held.{Table, shown, finds, named, back_byte}
 use Rattle.pages.specs.Loads.{laid_to}
-use Rattle.pages.proofs.Truths.{clash}
+use Rattle.std.proofs.lemmas.Bool.{both_ways}
 use Rattle.model.specs.declared.job.Job.{Job}
 use Rattle.model.specs.Jobs.{is_open}
 use Rattle.model.specs.Calls.{opens, asks, loads, runs}
@@ -34,11 +34,11 @@ met = record {
   job = 0;
   table = mine;
   start = 0;
-  opening = record { accepted_first = refl; accepted_second = refl; same_takes = λ p h. refl; same_fixed = λ x h f. clash true refl f };
+  opening = record { accepted_first = refl; accepted_second = refl; same_takes = λ p h. refl; same_fixed = λ x h f. absurd (both_ways true f refl) };
   calls₁ = asks 0 (runs 1) ∷ [];
   calls₂ = asks 1 (loads 0 (7 ∷ [])) ∷ asks 0 (runs 1) ∷ [];
   same_calls = refl;
   other_bytes = (0, λ e. let z : ◌≡◌ {A = ℕ} 0 9 = e in omega arith);
-  other_jobs = (1, λ e. clash false (ap (λ (b : Job). is_open b.status) e) refl);
+  other_jobs = (1, λ e. absurd (both_ways false refl (ap (λ (b : Job). is_open b.status) e)));
   changed = λ e. let z : ◌≡◌ {A = ℕ} 1 0 = ap (λ (b : Job). b.steps) e in omega arith;
 }

@@ -60,7 +60,7 @@ found f s u p r ran calls =
 
 -- A closure that computes a test makes `any` over the numbers below `n` what `h` says of them, a number at a time.
 module _ (f h : ℕ → Bool) (none : h 0 ≡ false) (more : (n : ℕ) → h (n + 1) ≡ (f n || h n)) where
-  passes : (n k : ℕ) → k < n → f k ≡ true → h n ≡ true
+  pub passes : (n k : ℕ) → k < n → f k ≡ true → h n ≡ true
   passes zero k low t = absurd (omega arith)
   passes (suc n) k low t =
       ap h (sym (add-one n))

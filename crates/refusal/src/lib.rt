@@ -89,7 +89,7 @@ impl Ground {
     }
 }
 
-// As `refused 2 at 0`: number and place.
+// As `refused 2 at 0`: number and place. By hand, since a derived one would have no `output`.
 impl fmt::Display for Refusal {
     ghost output = { λ r. Some (line_of r) };
 

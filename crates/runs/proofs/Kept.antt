@@ -23,7 +23,6 @@ use Rattle.block.specs.Fields.{Worked, field_element_of, field_next, field_from,
 use Rattle.processor.specs.declared.Done.{Done}
 use Rattle.processor.specs.declared.effects.Carried.{Carried}
 use Rattle.processor.specs.declared.fetching.Fetched.{Fetched}
-use Rattle.processor.specs.declared.fetching.Operand.{Operand}
 use Rattle.processor.specs.Fetches.{fetch_of, operand_of}
 use Rattle.processor.specs.Effects.{Effect, on, plain, taken, called_to, returned, source_in, read_into, wrote, operated_with, effect_of}
 use Rattle.processor.specs.Steps.{settled, carried_out, decoded, step_of}
@@ -50,13 +49,13 @@ module _ (P : Cells → Type 0) (store : (s : Cells) (a b : ℕ) → P s → P (
   by_kept Backward k s h = element_kept 65535 k s h
   by_kept Convert k s h = converted_kept k s h
 
-  test_kept : (z : Bool) (x y : Moved) → P x.cells → P y.cells → P (cond z x y).cells
-  test_kept true x y f g = f
-  test_kept false x y f g = g
+  test_kept : {R : Type 0} (cells : R → Cells) (z : Bool) (x y : R) → P (cells x) → P (cells y) → P (cells (cond z x y))
+  test_kept cells true x y f g = f
+  test_kept cells false x y f g = g
 
   onward_kept : (r : Result ℕ Fault) (n : ℕ) (rest : ℕ → Bank → Cells → Moved) (k : Bank) (s : Cells) → P s → ((sum : ℕ) (m : Bank) (u : Cells) → P u → P (rest sum m u).cells) → P (next r n rest k s).cells
   onward_kept (Err e) n rest k s h g = h
-  onward_kept (Ok sum) n rest k s h g = test_kept (eqb sum 256) (ended n true sum k s) (rest sum (counted k) s) h (g sum (counted k) s h)
+  onward_kept (Ok sum) n rest k s h g = test_kept (λ (m : Moved). m.cells) (eqb sum 256) (ended n true sum k s) (rest sum (counted k) s) h (g sum (counted k) s h)
 
   block_kept : (x : Block) (more before : ℕ) (k : Bank) (s : Cells) → P s → P (block_from x more before k s).cells
   block_kept x zero before k s h = onward_kept (element_by x k s).answer (before + 1) (ended (before + 1) false) (element_by x k s).bank (element_by x k s).cells (by_kept x k s h) (λ sum m u g. g)
@@ -77,10 +76,6 @@ module _ (P : Cells → Type 0) (store : (s : Cells) (a b : ℕ) → P s → P (
   field_kept o f (suc left) k s h =
       let y : Worked = field_element_of o k s in
       next_kept y.answer f (field_from o f left) y.bank y.cells (cell_kept o k s h) (field_kept o f left y.bank y.cells)
-
-  flag_kept : (a : Bool) (x y : Effect) → P x.cells → P y.cells → P (cond a x y).cells
-  flag_kept true x y f g = f
-  flag_kept false x y f g = g
 
   read_kept : (x : Result ℕ Fault) (r : Register) (c : Processor) (s : Cells) → P s → P (read_into x r c s).cells
   read_kept (Ok b) r c s h = h
@@ -103,11 +98,11 @@ module _ (P : Cells → Type 0) (store : (s : Cells) (a b : ℕ) → P s → P (
   effect_kept (i.Operate o from t) v c s h = operated_kept (source_in from s (bank_of c) v) o t c s h
   effect_kept (i.Shift t r) v c s h = h
   effect_kept i.Jump v c s h = h
-  effect_kept (i.JumpIf k) v c s h = flag_kept (holds_of k (bank_of c).flags) (on taken (with_p c v) s) (on plain c s) h h
+  effect_kept (i.JumpIf k) v c s h = test_kept (λ (e : Effect). e.cells) (holds_of k (bank_of c).flags) (on taken (with_p c v) s) (on plain c s) h h
   effect_kept i.Call v c s h = h
-  effect_kept (i.CallIf k) v c s h = flag_kept (holds_of k (bank_of c).flags) (on taken (called_to c v) s) (on plain c s) h h
+  effect_kept (i.CallIf k) v c s h = test_kept (λ (e : Effect). e.cells) (holds_of k (bank_of c).flags) (on taken (called_to c v) s) (on plain c s) h h
   effect_kept i.Return v c s h = h
-  effect_kept (i.ReturnIf k) v c s h = flag_kept (holds_of k (bank_of c).flags) (on taken (returned c) s) (on plain c s) h h
+  effect_kept (i.ReturnIf k) v c s h = test_kept (λ (e : Effect). e.cells) (holds_of k (bank_of c).flags) (on taken (returned c) s) (on plain c s) h h
   effect_kept (i.Push p) v c s h = h
   effect_kept i.PushImmediate v c s h = h
   effect_kept (i.Pop p) v c s h = h
@@ -127,15 +122,15 @@ module _ (P : Cells → Type 0) (store : (s : Cells) (a b : ℕ) → P s → P (
   settled_kept (Ok d) x at c s h = h
   settled_kept (Err e) x at c s h = h
 
-  carried_kept : (r : Result Operand Fault) (x : Instruction) (c : Processor) (s : Cells) → P s → P (carried_out r x c s).cells
+  carried_kept : (r : Result (Fetched ℕ) Fault) (x : Instruction) (c : Processor) (s : Cells) → P s → P (carried_out r x c s).cells
   carried_kept (Err e) x c s h = h
   carried_kept (Ok o) x c s h =
       let y : Effect = effect_of x o.value (with_p c o.next) s in
       settled_kept y.answer x c.p y.cpu y.cells (effect_kept x o.value (with_p c o.next) s h)
 
-  decoded_kept : (r : Result Fetched Fault) (c : Processor) (s : Cells) → P s → P (decoded r c s).cells
+  decoded_kept : (r : Result (Fetched Instruction) Fault) (c : Processor) (s : Cells) → P s → P (decoded r c s).cells
   decoded_kept (Err e) c s h = h
-  decoded_kept (Ok f) c s h = carried_kept (operand_of f.instruction s f.next) f.instruction c s h
+  decoded_kept (Ok f) c s h = carried_kept (operand_of f.value s f.next) f.value c s h
 
   pub step_kept : (c : Processor) (s : Cells) → P s → P (step_of c s).cells
   step_kept c s h = decoded_kept (fetch_of s c.p) c s h

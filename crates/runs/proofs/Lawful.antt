@@ -11,7 +11,6 @@ use Rattle.decode.specs.declared.instruction.Instruction.{Instruction}
 use Rattle.processor.specs.declared.Done.{Done}
 use Rattle.processor.specs.declared.effects.Carried.{Carried}
 use Rattle.processor.specs.declared.fetching.Fetched.{Fetched}
-use Rattle.processor.specs.declared.fetching.Operand.{Operand}
 use Rattle.processor.specs.Fetches.{fetch_of, operand_of}
 use Rattle.processor.specs.Effects.{Effect, effect_of}
 use Rattle.processor.specs.Steps.{settled, carried_out, decoded, step_of}
@@ -109,34 +108,34 @@ settled_faulted : (r : Result Carried Fault) (x : Instruction) (at : ℕ) (c : P
 settled_faulted (Ok d) x at c s e h = let z : ◌≡◌ {A = ℕ} 0 1 = cc in absurd (omega arith)
 settled_faulted (Err f) x at c s e h = refl
 
-carried_faulted : (r : Result Operand Fault) (x : Instruction) (c : Processor) (s : Cells) (e : Fault) → (carried_out r x c s).answer ≡ Err e
+carried_faulted : (r : Result (Fetched ℕ) Fault) (x : Instruction) (c : Processor) (s : Cells) (e : Fault) → (carried_out r x c s).answer ≡ Err e
     → (carried_out r x c s).cpu.p ≡ c.p
 carried_faulted (Err f) x c s e h = refl
 carried_faulted (Ok o) x c s e h =
     let y : Effect = effect_of x o.value (with_p c o.next) s in settled_faulted y.answer x c.p y.cpu y.cells e h
 
-decoded_faulted : (r : Result Fetched Fault) (c : Processor) (s : Cells) (e : Fault) → (decoded r c s).answer ≡ Err e → (decoded r c s).cpu.p ≡ c.p
+decoded_faulted : (r : Result (Fetched Instruction) Fault) (c : Processor) (s : Cells) (e : Fault) → (decoded r c s).answer ≡ Err e → (decoded r c s).cpu.p ≡ c.p
 decoded_faulted (Err f) c s e h = refl
-decoded_faulted (Ok f) c s e h = carried_faulted (operand_of f.instruction s f.next) f.instruction c s e h
+decoded_faulted (Ok f) c s e h = carried_faulted (operand_of f.value s f.next) f.value c s e h
 
 module _ (c : Processor) (s : Cells) (d : Done) where
-  settled_charged : (f : Fetched) (o : Operand) (r : Result Carried Fault) (m : Processor) (u : Cells) → fetch_of s c.p ≡ Ok f
-      → operand_of f.instruction s f.next ≡ Ok o → (effect_of f.instruction o.value (with_p c o.next) s).answer ≡ r
-      → (settled r f.instruction c.p m u).answer ≡ Ok d → Charged c s d
+  settled_charged : (f : Fetched Instruction) (o : Fetched ℕ) (r : Result Carried Fault) (m : Processor) (u : Cells) → fetch_of s c.p ≡ Ok f
+      → operand_of f.value s f.next ≡ Ok o → (effect_of f.value o.value (with_p c o.next) s).answer ≡ r
+      → (settled r f.value c.p m u).answer ≡ Ok d → Charged c s d
   settled_charged f o (Err e) m u p q x h = let z : ◌≡◌ {A = ℕ} 0 1 = cc in absurd (omega arith)
   settled_charged f o (Ok k) m u p q x h =
       record { fetched = f; operand = o; carried = k; at_p = p; after_op = q; carried_out_is = x; time = cc; trap = cc }
 
-  carried_charged : (f : Fetched) (r : Result Operand Fault) → fetch_of s c.p ≡ Ok f → operand_of f.instruction s f.next ≡ r
-      → (carried_out r f.instruction c s).answer ≡ Ok d → Charged c s d
+  carried_charged : (f : Fetched Instruction) (r : Result (Fetched ℕ) Fault) → fetch_of s c.p ≡ Ok f → operand_of f.value s f.next ≡ r
+      → (carried_out r f.value c s).answer ≡ Ok d → Charged c s d
   carried_charged f (Err e) p q h = let z : ◌≡◌ {A = ℕ} 0 1 = cc in absurd (omega arith)
   carried_charged f (Ok o) p q h =
-      let y : Effect = effect_of f.instruction o.value (with_p c o.next) s in
+      let y : Effect = effect_of f.value o.value (with_p c o.next) s in
       settled_charged f o y.answer y.cpu y.cells p q refl h
 
-  decoded_charged : (r : Result Fetched Fault) → fetch_of s c.p ≡ r → (decoded r c s).answer ≡ Ok d → Charged c s d
+  decoded_charged : (r : Result (Fetched Instruction) Fault) → fetch_of s c.p ≡ r → (decoded r c s).answer ≡ Ok d → Charged c s d
   decoded_charged (Err e) p h = let z : ◌≡◌ {A = ℕ} 0 1 = cc in absurd (omega arith)
-  decoded_charged (Ok f) p h = carried_charged f (operand_of f.instruction s f.next) p refl h
+  decoded_charged (Ok f) p h = carried_charged f (operand_of f.value s f.next) p refl h
 
 pub step_laws : StepLaws
 step_laws =

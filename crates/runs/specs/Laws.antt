@@ -9,8 +9,8 @@ use Rattle.stop.specs.declared.Stop.TheVariants.{Limit, Trapped, Faulted}
 use Rattle.times.specs.Times.{time_of}
 use Rattle.processor.specs.declared.Done.{Done}
 use Rattle.processor.specs.declared.effects.Carried.{Carried}
+use Rattle.decode.specs.declared.instruction.Instruction.{Instruction}
 use Rattle.processor.specs.declared.fetching.Fetched.{Fetched}
-use Rattle.processor.specs.declared.fetching.Operand.{Operand}
 use Rattle.processor.specs.Fetches.{fetch_of, operand_of}
 use Rattle.processor.specs.Effects.{effect_of}
 use Rattle.processor.specs.Steps.{step_of}
@@ -49,13 +49,13 @@ pub record RunLaws (limit : ℕ) (c : Processor) (s : Cells) (o : Over) : Type 0
 
 -- The time of a step that counts is that of the fetched instruction and of its course.
 pub record Charged (c : Processor) (s : Cells) (d : Done) : Type 0 where
-  pub fetched : Fetched
-  pub operand : Operand
+  pub fetched : Fetched Instruction
+  pub operand : Fetched ℕ
   pub carried : Carried
   pub at_p : fetch_of s c.p ≡ Ok fetched
-  pub after_op : operand_of fetched.instruction s fetched.next ≡ Ok operand
-  pub carried_out_is : (effect_of fetched.instruction operand.value (with_p c operand.next) s).answer ≡ Ok carried
-  pub time : d.time ≡ time_of fetched.instruction carried.course
+  pub after_op : operand_of fetched.value s fetched.next ≡ Ok operand
+  pub carried_out_is : (effect_of fetched.value operand.value (with_p c operand.next) s).answer ≡ Ok carried
+  pub time : d.time ≡ time_of fetched.value carried.course
   pub trap : d.trap ≡ carried.trap
 
 pub record StepLaws : Type 0 where

@@ -1,4 +1,4 @@
-// Runs: step after step, up to a limit or a stop.
+// Runs: step after step, up to a limit or a stop. As in a step, the processor and the space stay two parameters.
 #![tactic(auto)]
 
 ghost use Rattle.std.specs.Prelude.{◌≡◌, ℕ, ◌*◌, ◌≤◌};

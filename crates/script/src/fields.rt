@@ -77,6 +77,7 @@ impl<'a> Fields<'a> {
         in_range(word, most)
     }
 
+    // This and `address` are a line each, which a function generic over the number's type would be no plainer than.
     pub fn byte(&mut self) -> Result<u8, Fault> {
         Ok(self.number(255)? as u8)
     }

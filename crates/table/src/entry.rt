@@ -32,7 +32,7 @@ impl Entry {
     pub fn page(self) -> Page
         ensures { result.number ≡ page_in self.bits }
     {
-        Page::of(self.bits as u16 / 16 * 4096)
+        Page::try_from(self.bits / 16).unwrap()
     }
 }
 
@@ -40,12 +40,8 @@ impl Entry {
 pub fn entry_of(table: &[u8; 15], number: u32) -> Entry
     ensures { result.bits ≡ entry_of table.now number }
 {
-    if number < 15 {
-        Entry {
-            bits: table[number as usize],
-        }
-    } else {
-        Entry { bits: 0 }
+    Entry {
+        bits: table.get(number as usize).copied().unwrap_or(0),
     }
 }
 

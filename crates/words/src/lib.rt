@@ -3,7 +3,7 @@
 
 pub mod numbers;
 
-ghost use Rattle.std.specs.Prelude.{◌≡◌, ◌≤◌, length, not};
+ghost use Rattle.std.specs.Prelude.{◌≡◌, not};
 ghost use Rattle.std.specs.List.{prefix_len, take_while};
 ghost use Rattle.words.specs.Splits.{Parted};
 ghost use Rattle.words.specs.Kinds.{blank_byte, comment_byte};
@@ -30,24 +30,21 @@ fn is_comment(b: u8) -> bool
 // How many bytes stand before a comment. This and the next two are chains of their own and not one function that is given the test: of such
 // a one the contract would have to say what the test answers.
 fn code_length(line: &[u8]) -> usize
-    ensures value { result ≡ prefix_len (λ b. not (comment_byte b)) line.now }
-    ensures within { result ≤ length line.now }
+    ensures { result ≡ prefix_len (λ b. not (comment_byte b)) line.now }
 {
     line.iter().take_while(|b| !is_comment(**b)).count()
 }
 
 // How many blanks stand at the front.
 fn gap_length(line: &[u8]) -> usize
-    ensures value { result ≡ prefix_len blank_byte line.now }
-    ensures within { result ≤ length line.now }
+    ensures { result ≡ prefix_len blank_byte line.now }
 {
     line.iter().take_while(|b| is_blank(**b)).count()
 }
 
 // How many bytes stand before a blank.
 fn word_length(line: &[u8]) -> usize
-    ensures value { result ≡ prefix_len (λ b. not (blank_byte b)) line.now }
-    ensures within { result ≤ length line.now }
+    ensures { result ≡ prefix_len (λ b. not (blank_byte b)) line.now }
 {
     line.iter().take_while(|b| !is_blank(**b)).count()
 }

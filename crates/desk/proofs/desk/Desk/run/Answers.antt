@@ -1,9 +1,11 @@
 use Rattle.std.proofs.Common.{◌≡◌, ℕ, ◌<◌, true, get_or, None, subst, arith}
 use Rattle.model.specs.declared.job.Job.{Job}
 use Rattle.model.specs.Worlds.{World, world_of}
+use Rattle.engine.specs.Answers.{owed_of}
+use Rattle.engine.proofs.Receipts.{RanSays, ran_says}
 use Rattle.desk.specs.Owing.{owed_to}
 use Rattle.desk.proofs.Owing.{all_kept}
-use Rattle.desk.proofs.Keeping.{RanOwes, run_owes, run_refused}
+use Rattle.desk.proofs.Keeping.{run_owes, run_refused}
 use Rattle.desk.proofs.desk.Desk.run.Goals as goal
 
 pub invariant_of-self : goal.invariant_of-self
@@ -18,9 +20,10 @@ invariant_of-self-2 g c =
     let self = c.args.self.now in
     let w : World = world_of self.engine.jobs (g.M.Memory.mem c.args.memory.now) in
     let v : World = world_of c.run.new.self.jobs (g.M.Memory.mem c.run.new.memory) in
-    let says : RanOwes c.args.job w v c.in_ok-run.field-0.receipt =
-    run_owes c.args.job c.args.limit w v c.in_ok-run.field-0.run c.in_ok-run.field-0.receipt c.in_ok-run.ensures in
+    let run = c.in_ok-run.field-0.run in
+    let receipt = c.in_ok-run.field-0.receipt in
+    let says : RanSays c.args.job w v run (owed_of receipt) = ran_says c.args.job c.args.limit w v run (owed_of receipt) c.in_ok-run.ensures in
     record {
-      kept = all_kept w.jobs v.jobs self.held.receipts c.replace.new.self.receipts c.args.job (v.jobs c.args.job) c.in_ok-run.field-0.receipt self.kept
-          (let low : c.args.job < 8 = says.low in omega (arith, self.held.eight)) says.jobs c.replace.ensures.after says.owed;
+      kept = all_kept w.jobs v.jobs self.held.receipts c.replace.new.self.receipts c.args.job (v.jobs c.args.job) receipt self.kept
+          (let low : c.args.job < 8 = says.low in omega (arith, self.held.eight)) says.jobs c.replace.ensures.after (run_owes c.args.job w v run receipt says);
     }

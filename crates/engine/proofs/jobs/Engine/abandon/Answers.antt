@@ -1,32 +1,16 @@
-use Rattle.std.proofs.Common.{◌≡◌, ap, ◌∙◌, rules}
+use Rattle.std.proofs.Common.{refl, rules}
 use Rattle.model.specs.Jobs.{closed_job}
-use Rattle.model.specs.Calls.{abandons, done}
-use Rattle.model.specs.Acts.{judge_receipt}
-use Rattle.model.specs.Worlds.{World, world_of, jobs_of, upd}
-use Rattle.model.proofs.Settling.{refuses, accepts, settles_record}
-use Rattle.engine.specs.Answers.{returned_answer}
-use Rattle.engine.proofs.Judged.{given, withheld, hands_on}
+use Rattle.model.specs.Calls.{abandons}
+use Rattle.model.specs.Worlds.{world_of}
+use Rattle.engine.proofs.Receipts.{handed_back, carried_out}
 use Rattle.engine.proofs.jobs.Engine.abandon.Goals as goal
 
 pub returns-in_err-job-clause-world : goal.returns-in_err-job-clause-world
 returns-in_err-job-clause-world c =
-    let j = c.args.receipt.job in
-    let n = c.args.receipt.number in
-    let b = jobs_of c.args.self.now.jobs j in
-    λ m.
-    let w : World = world_of c.args.self.now.jobs m in
-    hands_on returned_answer w _ _ _
-    (refuses j (abandons n) w c.in_err-job.field-0.0.refusal (withheld (judge_receipt j n b) b _ c.in_err-job.ensures.judged))
-    c.from_residual.ensures.1
+    λ m. handed_back c.args.receipt.job (abandons c.args.receipt.number) (world_of c.args.self.now.jobs m) _ _ c.in_err-job.ensures.judged c.from_residual.ensures.1
 
 pub returns-clause-world : goal.returns-clause-world
 returns-clause-world c =
-    let j = c.args.receipt.job in
-    let n = c.args.receipt.number in
-    let b = jobs_of c.args.self.now.jobs j in
-    let took = given (judge_receipt j n b) b _ c.in_ok-job.ensures.judged in
-    let same : c.in_ok-job.field-0.job ≡ j = search rules in
     λ m.
-    let w : World = world_of c.args.self.now.jobs m in
-    accepts j (abandons n) w took.0
-    ∙ settles_record j w closed_job (jobs_of c.vacate.new.self.jobs) done (c.vacate.ensures ∙ ap (λ k. upd w.jobs k closed_job) same)
+    carried_out c.args.receipt.job (abandons c.args.receipt.number) (world_of c.args.self.now.jobs m) c.in_ok-job.field-0.job _ closed_job closed_job _ c.in_ok-job.ensures.judged
+    refl (search rules) (λ e. refl) c.vacate.ensures

@@ -5,7 +5,7 @@ use Rattle.model.specs.Acts.{judge_close}
 use Rattle.model.specs.Worlds.{World, world_of, jobs_of}
 use Rattle.model.proofs.Settling.{refuses, accepts, settles_record}
 use Rattle.engine.specs.Answers.{done_answer}
-use Rattle.engine.proofs.Judged.{given, withheld, seated, hands_on}
+use Rattle.engine.proofs.Judged.{given, withheld, hands_on}
 use Rattle.engine.proofs.jobs.Engine.close.Goals as goal
 
 pub returns-in_err-idle_record : goal.returns-in_err-idle_record
@@ -17,12 +17,6 @@ returns-in_err-idle_record c =
     hands_on done_answer w _ _ _
     (refuses j closes w c.in_err-idle_record.field-0.0 (withheld (judge_close j b) b _ c.in_err-idle_record.ensures))
     c.from_residual.ensures.1
-
-pub vacate-requires : goal.vacate-requires
-vacate-requires c =
-    let j = c.args.job in
-    let b = jobs_of c.args.self.now.jobs j in
-    seated j _ (given (judge_close j b) b _ c.in_ok-idle_record.ensures).0
 
 pub returns : goal.returns
 returns c =

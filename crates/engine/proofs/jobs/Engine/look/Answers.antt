@@ -1,5 +1,4 @@
-use Rattle.std.proofs.Common.{length, refl, ap}
-use Rattle.std.proofs.lemmas.Result.{err_from_is_err_and}
+use Rattle.std.proofs.Common.{length, ap}
 use Rattle.model.specs.declared.job.Job.{Job}
 use Rattle.model.specs.Calls.{looks}
 use Rattle.model.specs.Acts.{no_such_job, not_open, judge_open_job}
@@ -10,20 +9,15 @@ use Rattle.engine.proofs.Judged.{given, withheld, stopped, hands_on}
 use Rattle.engine.proofs.Looked.{look_settles, look_leaves}
 use Rattle.engine.proofs.jobs.Engine.look.Goals as goal
 
-pub returns-in_err-record : goal.returns-in_err-record
-returns-in_err-record g c =
+pub returns-in_err-record-clause-world : goal.returns-in_err-record-clause-world
+returns-in_err-record-clause-world g c =
     let w : World = world_of c.args.self.now.jobs (g.M.Memory.mem c.args.memory.now) in
     let j = c.args.job in
     let b = w.jobs j in
-    let p = err_from_is_err_and c.from_residual.result c.from_residual.ensures.1 in
-    record {
-      world =
-          hands_on (λ r. look_answer r c.args.out.now) w _ _ _
-          (refuses j (looks c.args.at (length c.args.out.now)) w c.in_err-record.field-0.0
-          (stopped (no_such_job j) (not_open b) _ _ (withheld (judge_open_job j b) b _ c.in_err-record.ensures)))
-          c.from_residual.ensures.1;
-      untouched = rw p.1 refl;
-    }
+    hands_on (λ r. look_answer r c.args.out.now) w _ _ _
+    (refuses j (looks c.args.at (length c.args.out.now)) w c.in_err-record.field-0.0
+    (stopped (no_such_job j) (not_open b) _ _ (withheld (judge_open_job j b) b _ c.in_err-record.ensures)))
+    c.from_residual.ensures.1
 
 pub returns : goal.returns
 returns g c =
