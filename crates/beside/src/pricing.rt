@@ -29,7 +29,7 @@ const WRITES_TARIFF: [u8; 5] = [0o056, 0o020, 0o066, 0, 0o370];
 
 const READS_OUTSIDE: [u8; 5] = [0o056, 0o040, 0o066, 0, 0o307];
 
-// A board with the tariff, and a host, as the program freight has them, on which no crate can stand.
+// A board with the tariff, and a host, as the program freight has them: a dozen lines, fewer than a library for both would have.
 fn tariff_board<'a>(bytes: &'a mut [u8]) -> Result<SingleBoard<'a>, Refusal> {
     let five = Page::try_from(5)?;
     let filling = Filling::new();

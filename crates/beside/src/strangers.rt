@@ -29,8 +29,8 @@ const REGISTERS: Registers = Registers {
     x: 8,
 };
 
-// Abandons a receipt that fits, which is accepted. Each crate that ends a receipt so has these lines: this requires that it fits, and no public
-// function of a library requires anything.
+// Abandons a receipt that fits, which is accepted. Each crate that ends a receipt so has these lines: this requires that it fits, which neither
+// it nor the engine holds by its type, and no public function of a library requires anything.
 fn abandon_fitting(engine: &mut Engine, owed: Receipt)
     requires { Acceptable (owed_of (Some owed)) (jobs_of engine.old.jobs) }
 {

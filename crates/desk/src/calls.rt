@@ -1,5 +1,6 @@
 // The calls of a desk: those of its engine, with the receipts kept here. A host names a receipt by its job and number.
-// Each says again what its engine's says, and is given the same memory and job, so that a host needs no other page.
+// Each says again what its engine's says, of the buffer too, and is given the same memory and job, so that a host needs no other page and
+// cannot come at the engine past the desk.
 ghost use Rattle.std.specs.Prelude.{◌≡◌, ℕ, ◌<◌, length, if◌then◌else◌, None, OnErr, nat_eq, slice_index_or};
 ghost use Rattle.memory.specs.Memories.{Mem};
 ghost use Rattle.model.specs.Calls.{opens, asks, loads, runs as asks_run, replies, abandons, looks, states, closes};

@@ -1,5 +1,5 @@
 // The host's side: an engine at its desk, and the board that its jobs work on. The tests of jobs beside each other have such lines of their
-// own, since nothing can stand on a program.
+// own: in common are a dozen, fewer than a library for both would have, and a reader of either would have to look there.
 use crate::problem::Problem;
 use boards::single::SingleBoard;
 use desk::desk::Desk;

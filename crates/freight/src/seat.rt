@@ -14,7 +14,7 @@ use stop::{Stop, Trap};
 #[derive(Drop)]
 pub struct Seat {
     shipper: Shipper,
-    account: Account<'static>,
+    account: Account,
     runs: u32,
     over: bool,
 }
@@ -25,7 +25,7 @@ impl Seat {
         host.start(shipper.job, shipper.table, shipper.code)?;
         Ok(Seat {
             shipper,
-            account: Account::new(heap, &SHIPMENTS),
+            account: Account::new(heap),
             runs: 0,
             over: false,
         })
@@ -58,7 +58,7 @@ impl Seat {
         let job = self.shipper.job;
         let state = host.state(job)?;
         let question = Question::from(&state.processor.bank());
-        let reply = self.account.answer(question)?;
+        let reply = self.account.answer(question, &SHIPMENTS)?;
         host.reply(job, reply)
     }
 

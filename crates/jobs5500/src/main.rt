@@ -67,16 +67,14 @@ fn say(rt: &HostRuntime, answer: Result<Answer, Denial>) -> anyhow::Result<()> {
 
 // The command of a line, if it has one. A fault is answered here.
 fn read(rt: &HostRuntime, line: io::Result<Vec<u8>>) -> anyhow::Result<Option<Command>> {
-    match parse(line?.as_slice(), rt.alloc()) {
-        Ok(command) => Ok(command),
-        Err(fault) => {
-            say(rt, Err(Denial::Error(fault)))?;
-            Ok(None)
-        }
-    }
+    parse(line?.as_slice(), rt.alloc()).or_else(|fault| {
+        say(rt, Err(Denial::Error(fault)))?;
+        Ok(None)
+    })
 }
 
-// Both loops go over the lines. Tried over an iterator of commands: each function that is given one would require that it goes on and ends.
+// Both loops go over the lines: a method that gave the next command would be asked in a `for` over numbers that nothing uses, and over an iterator
+// of commands (tried) each function that is given one would require that it goes on and ends.
 impl Console<'_> {
     // Follows the lines on memory up to the first other command, which it gives.
     fn set_up(&mut self, plan: &mut Plan, board: &mut [u8]) -> anyhow::Result<Option<Command>> {

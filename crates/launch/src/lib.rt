@@ -1,4 +1,4 @@
-// An image from the file to the figure: what run5500 does.
+// An image from the file to the figure: what run5500 does. Engine and memory stay two parameters, since the memory is lent at each call.
 #![tactic(auto)]
 
 ghost use Rattle.std.specs.Prelude.{◌≡◌, ℕ, true, Some};
@@ -90,7 +90,8 @@ fn accumulator(engine: &Engine) -> u8
 }
 
 // Abandons what is owed, which is accepted. An engine, and no desk, which would keep the receipt: a desk cannot be dropped where a `?` ends the launch.
-// Crates of tests have such a function of their own: it requires something, and no public function of a library does.
+// Crates of tests have such a function of their own: it requires that the engine accepts the receipt, which neither of them holds by its type,
+// and no public function of a library requires anything.
 fn abandon_owed(engine: &mut Engine, receipt: Option<Receipt>)
     requires { Acceptable (owed_of receipt) (jobs_of engine.old.jobs) }
     ensures { (m : Mem) → world_of engine.new.jobs m ≡ settled_by (owed_of receipt) (world_of engine.old.jobs m) }

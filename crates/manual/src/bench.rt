@@ -1,4 +1,4 @@
-// A program on a bench: loaded at address 0 of job 0 and run.
+// A program on a bench: loaded at address 0 of job 0 and run. Desk and memory stay two parameters, since the memory is lent at each call.
 use boards::single::{Filling, SingleBoard};
 use desk::desk::Desk;
 use memory::Memory;

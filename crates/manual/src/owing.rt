@@ -26,8 +26,8 @@ fn close_waiting(engine: &mut Engine) -> Result<(), Refusal>
     engine.close(0)
 }
 
-// Abandons what is owed, which is accepted. Each crate that ends a receipt so has these lines: this requires that, and no public function of a
-// library requires anything.
+// Abandons what is owed, which is accepted. Each crate that ends a receipt so has these lines: this requires that the engine accepts it, which
+// neither of them holds by its type, and no public function of a library requires anything.
 fn abandon_owed(engine: &mut Engine, owed: Receipt)
     requires { Acceptable (owed_of (Some owed)) (jobs_of engine.old.jobs) }
 {

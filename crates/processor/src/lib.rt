@@ -16,7 +16,7 @@ use stop::{Fault, Trap};
 use times::time_of;
 
 // A step that counts: its time in nanoseconds, and how it ends the run, if it does. `Carried` has a trap too, beside what the time depends
-// on: as one generic type its other field would have no name.
+// on. No generic type for both: a time and a course are no values of one kind, as an instruction and its operand, both fetched, are.
 #[derive(Clone, Copy)]
 pub struct Done {
     pub time: u32,

@@ -55,6 +55,7 @@ pub struct Refusal {
 }
 
 impl Ground {
+    // By discriminant, as a trap's and a fault's: a line each, which a trait would be no plainer than.
     pub fn number(self) -> u8
         ensures { result ≡ number_of self }
     {
@@ -82,10 +83,7 @@ impl Ground {
     pub fn refuse_at(self, place: Option<u32>) -> Result<(), Refusal>
         ensures { result ≡ at_place self place }
     {
-        match place {
-            Some(first) => Err(self.at(first)),
-            None => Ok(()),
-        }
+        place.map_or(Ok(()), |first| Err(self.at(first)))
     }
 }
 

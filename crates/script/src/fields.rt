@@ -107,8 +107,13 @@ impl<'a> Fields<'a> {
         })
     }
 
-    // The bytes to the end of the line. The loop counts nothing: what is left is a slice.
-    pub fn bytes(&mut self, heap: Global) -> Result<Vec<u8>, Fault> {
+    // The bytes to the end of the line. The heap is a parameter of what allocates: a struct would hold it for one call.
+    pub fn bytes(mut self, heap: Global) -> Result<Vec<u8>, Fault> {
+        self.take_bytes(heap)
+    }
+
+    // The same, with nothing left. The loop counts nothing: what is left is a slice.
+    pub(crate) fn take_bytes(&mut self, heap: Global) -> Result<Vec<u8>, Fault> {
         let mut bytes = Vec::new(heap);
         while let Some(Split { word, rest }) = split_word(self.rest) {
             Repeated::of(word)?.append_to(&mut bytes)?;
@@ -125,9 +130,6 @@ impl<'a> Fields<'a> {
 
     // No word is left.
     pub fn end(&self) -> Result<(), Fault> {
-        match split_word(self.rest) {
-            Some(_) => Err(Fault::ExtraNumber),
-            None => Ok(()),
-        }
+        split_word(self.rest).map_or(Ok(()), |_| Err(Fault::ExtraNumber))
     }
 }

@@ -22,17 +22,17 @@ impl Line<'_> {
             b"fill" => Setup::Fill {
                 page: self.fields.byte()?,
                 offset: self.fields.address()?,
-                bytes: self.fields.bytes(self.heap)?,
+                bytes: self.fields.take_bytes(self.heap)?,
             },
             b"seal" => Setup::Seal {
-                pages: self.fields.bytes(self.heap)?,
+                pages: self.fields.take_bytes(self.heap)?,
             },
             b"rom" => Setup::Rom {
                 page: self.fields.byte()?,
-                bytes: self.fields.bytes(self.heap)?,
+                bytes: self.fields.take_bytes(self.heap)?,
             },
             b"seallayer" => Setup::SealLayer {
-                pages: self.fields.bytes(self.heap)?,
+                pages: self.fields.take_bytes(self.heap)?,
             },
             _ => return Ok(None),
         }))
@@ -48,7 +48,7 @@ impl Line<'_> {
             b"load" => Call::Load {
                 job: self.fields.byte()?,
                 at: self.fields.address()?,
-                bytes: self.fields.bytes(self.heap)?,
+                bytes: self.fields.take_bytes(self.heap)?,
             },
             b"run" => Call::Run {
                 job: self.fields.byte()?,
@@ -91,7 +91,7 @@ impl Line<'_> {
                 code: self.fields.byte()?,
             },
             b"image" => Question::Image {
-                bytes: self.fields.bytes(self.heap)?,
+                bytes: self.fields.take_bytes(self.heap)?,
             },
             _ => return Ok(None),
         }))
