@@ -11,11 +11,12 @@ use refusal::{Ground, Refusal};
 const SIZE: usize = 65536;
 
 impl<const PAGES: u8> Board<'_, '_, PAGES> {
-    // Whether both buffers have their length.
+    // Whether both buffers have their length. Of sixteen pages there is no other buffer, and none is asked for its length: a step asks at each byte.
     fn right(&self) -> bool
         ensures { result ≡ lengths_right PAGES self.now.lower.now self.now.upper.now }
     {
-        self.lower.len() == bytes_in(PAGES) && self.lower.len() + self.upper.len() == SIZE
+        self.lower.len() == bytes_in(PAGES)
+            && (PAGES == 16 || self.lower.len() + self.upper.len() == SIZE)
     }
 
     // Puts a byte into a page that takes writes.
