@@ -59,7 +59,7 @@ impl Host<'_, '_> {
     }
 }
 
-// What is found at a new desk over a new board.
+// What is found at a new desk over a new board. It requires that `found` may be called, so no library has it.
 fn at_host<T, F: FnOnce(&mut Host<'_, '_>) -> Result<T, Fail>>(
     rt: &HostRuntime,
     found: F,

@@ -37,8 +37,8 @@ impl Held {
         place.as_ref().map(|receipt| receipt.number())
     }
 
-    // Puts another in a job's place, and gives what was there. A number that has no place would leave the receipt without one: the engine ran
-    // the job, so it is below eight.
+    // Puts another in a job's place, and gives what was there. The engine ran the job, so its number is below eight; a type that says so would be
+    // made and unmade in every call.
     pub(crate) fn replace(&mut self, job: u8, new: Option<Receipt>) -> Option<Receipt>
         requires { job < 8 }
         ensures value { result ≡ slice_index_or self.old.receipts job None }
