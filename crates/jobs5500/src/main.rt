@@ -18,14 +18,14 @@ use std::io;
 use std::io::{BufRead, BufReader, Split, Stdin};
 
 // A desk at work over its memory.
-struct Session<M> {
+struct Machine<M> {
     desk: Desk,
     memory: M,
 }
 
-impl<M: Memory> Session<M> {
-    fn over(memory: M) -> Session<M> {
-        Session {
+impl<M: Memory> Machine<M> {
+    fn over(memory: M) -> Machine<M> {
+        Machine {
             desk: Desk::new(),
             memory,
         }
@@ -44,7 +44,7 @@ impl<M: Memory> Session<M> {
     where
         M: Drop,
     {
-        let Session { desk, memory } = self;
+        let Machine { desk, memory } = self;
         desk.finish();
         drop(memory);
     }
@@ -91,16 +91,16 @@ impl Console<'_> {
     // Answers the first command and the lines up to the end of input.
     fn answer_all<M: Memory>(
         &mut self,
-        session: &mut Session<M>,
+        machine: &mut Machine<M>,
         first: Option<Command>,
     ) -> anyhow::Result<()> {
         let heap = self.rt.alloc();
         if let Some(command) = first {
-            say(self.rt, session.answer(command, heap))?;
+            say(self.rt, machine.answer(command, heap))?;
         }
         for line in &mut self.lines {
             if let Some(command) = read(self.rt, line)? {
-                say(self.rt, session.answer(command, heap))?;
+                say(self.rt, machine.answer(command, heap))?;
             }
         }
         Ok(())
@@ -108,9 +108,9 @@ impl Console<'_> {
 
     // The rest of the script over a memory.
     fn serve<M: Memory + Drop>(&mut self, memory: M, first: Option<Command>) -> anyhow::Result<()> {
-        let mut session = Session::over(memory);
-        let result = self.answer_all(&mut session, first);
-        session.end();
+        let mut machine = Machine::over(memory);
+        let result = self.answer_all(&mut machine, first);
+        machine.end();
         result
     }
 

@@ -24,7 +24,7 @@ pub fn plain<'a>(bytes: &'a mut [u8]) -> SingleBoard<'a> {
 
 // What is found at a desk of its own, which is finished then with what its jobs are owed. It requires that `found` may be called, so no library
 // has it.
-pub fn at_desk<T, E, F: FnOnce(&mut Desk) -> Result<T, E>>(found: F) -> Result<T, E>
+pub(crate) fn at_desk<T, E, F: FnOnce(&mut Desk) -> Result<T, E>>(found: F) -> Result<T, E>
     requires { F.IsAlwaysCallable found }
 {
     let mut desk = Desk::new();
