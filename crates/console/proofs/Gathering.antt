@@ -7,7 +7,7 @@ use Rattle.refusal.specs.Grounds.{refusal_of}
 use Rattle.memory.specs.Memories.{sixteenth}
 use Rattle.console.specs.Pages.{among, all_pages}
 
-from_index : (l : List ℕ) (i : ℕ) → i < length l → drop i l ≡ get_or l i 0 ∷ drop (i + 1) l
+pub from_index : (l : List ℕ) (i : ℕ) → i < length l → drop i l ≡ get_or l i 0 ∷ drop (i + 1) l
 from_index l i h = rw (add-one, drop-cons l i 0)
 
 pub among_from : (p : ℕ) (l : List ℕ) (i : ℕ) → i < length l → among p (drop i l) ≡ (nat_eq p (get_or l i 0) || among p (drop (i + 1) l))

@@ -5,13 +5,15 @@ use Rattle.std.proofs.lemmas.Bool.{ltb-false, not-true, and_left, and_right, and
 use Rattle.refusal.specs.declared.Refusal.{Refusal}
 use Rattle.std.proofs.lemmas.Bool.{both_ways, cases_Bool}
 use Rattle.model.specs.declared.job.Job.{Job}
-use Rattle.model.specs.Jobs.{is_waiting}
+use Rattle.model.specs.Jobs.{closed_job, is_waiting}
+use Rattle.model.specs.Calls.{Owed}
 use Rattle.model.specs.Acts.{judge_receipt}
 use Rattle.model.specs.Worlds.{upd}
 use Rattle.engine.specs.declared.receipt.Receipt.{Receipt}
+use Rattle.engine.specs.Answers.{owed_of}
 use Rattle.engine.proofs.Receipts.{Waits, accepted, unowed}
 use Rattle.desk.specs.Held.{number_in, fitting}
-use Rattle.desk.specs.Owing.{owed_to}
+use Rattle.desk.specs.Owing.{owed_to, owed_as, released}
 use Rattle.std.proofs.lemmas.List.{get_or_past}
 use Rattle.std.proofs.lemmas.Option.{none-some}
 
@@ -81,6 +83,52 @@ owes f rs j n h len p = go (get_or rs j None) refl
           waiting = (held_waits j (f j) r (subst (λ (x : Option Receipt). owed_to j (f j) x ≡ true) e (h j))).waiting;
           judged = (taken f rs j n r h len fits).judged;
         }
+
+-- A job that does not wait is held nothing for.
+pub idle_none : (j : ℕ) (b : Job) (x : Option Receipt) → is_waiting b.status ≡ false → owed_to j b x ≡ true → x ≡ None
+idle_none j b None h e = refl
+idle_none j b (Some r) h e = absurd (both_ways (is_waiting b.status) h (held_waits j b r e).waiting)
+
+-- A receipt that is held is of its job.
+pub whole_owed : (j : ℕ) (b : Job) (x : Option Receipt) → owed_to j b x ≡ true → owed_as j (number_in x) ≡ owed_of x
+whole_owed j b None h = refl
+whole_owed j b (Some r) h = ap {B = Option Owed} (λ i. Some (record { job = i; number = r.number })) (sym (held_waits j b r h).job)
+
+-- A place past the eighth is empty.
+pub below_eight : (rs : List (Option Receipt)) (j n : ℕ) → length rs ≡ 8 → Some n ≡ number_in (get_or rs j None) → j < 8
+below_eight rs j n len p =
+    ⊎_elim (λ e. ltb-true j 8 e)
+    (λ e. absurd (none-some n (sym (p ∙ ap number_in (get_or_past rs j None (let k : 8 ≤ j = ltb-false j 8 e in omega (arith, len)))))))
+    (cases_Bool (ltb j 8))
+
+-- A job that is released does not wait, and one that does not wait is released as it is.
+pub released_idle : (b : Job) → is_waiting (released b).status ≡ false
+released_idle b =
+    ⊎_elim (λ e. ap (λ z. is_waiting (cond z closed_job b).status) e) (λ e. ap (λ z. is_waiting (cond z closed_job b).status) e ∙ e)
+    (cases_Bool (is_waiting b.status))
+
+pub idle_released : (b : Job) → is_waiting b.status ≡ false → released b ≡ b
+idle_released b e = ap (λ z. cond z closed_job b) e
+
+-- The places once every job below the eighth is released.
+module _ (f g : ℕ → Job) (rs qs : List (Option Receipt)) (was : (k : ℕ) → owed_to k (f k) (get_or rs k None) ≡ true) (now' : (k : ℕ) → owed_to k (g k) (get_or qs k None) ≡ true)
+    (len : length rs ≡ 8) (len' : length qs ≡ 8) (each : (k : ℕ) → g k ≡ cond (ltb k 8) (released (f k)) (f k)) where
+  pub all_gone : (k : ℕ) → get_or qs k None ≡ None
+  all_gone k =
+      ⊎_elim
+      (λ e. idle_none k (g k) (get_or qs k None) (ap (λ (b : Job). is_waiting b.status) (each k ∙ ap (λ z. cond z (released (f k)) (f k)) e) ∙ released_idle (f k)) (now' k))
+      (λ e. get_or_past qs k None (let h : 8 ≤ k = ltb-false k 8 e in omega (arith, len')))
+      (cases_Bool (ltb k 8))
+
+  pub all_released : (k : ℕ) → g k ≡ released (f k)
+  all_released k =
+      ⊎_elim
+      (λ e. each k ∙ ap (λ z. cond z (released (f k)) (f k)) e)
+      (λ e.
+      let past : get_or rs k None ≡ None = get_or_past rs k None (let h : 8 ≤ k = ltb-false k 8 e in omega (arith, len)) in
+      each k ∙ ap (λ z. cond z (released (f k)) (f k)) e
+      ∙ sym (idle_released (f k) (none_idle k (f k) (subst (λ (x : Option Receipt). owed_to k (f k) x ≡ true) past (was k)))))
+      (cases_Bool (ltb k 8))
 
 -- A job that neither waited before nor waits after a call: what is held for it, nothing, is right then too.
 pub idle_kept : (j : ℕ) (b c : Job) (x : Option Receipt) → is_waiting b.status ≡ false → is_waiting c.status ≡ false → owed_to j b x ≡ true → owed_to j c x ≡ true

@@ -131,6 +131,10 @@ pub receipt_ends : (j : ℕ) (x : Ask) (w v : World) (r : Result (Unit {0}) Retu
 receipt_ends j x w v (Ok u) h d p = refl
 receipt_ends j x w v (Err e) h d p = refused_done e.refusal (ap (λ (y : Done). y.answer) (sym p ∙ accepts j x w h) ∙ d)
 
+-- An acceptable abandoning is done.
+pub abandoned : (w : World) (o : Owed) → Acceptable (Some o) w.jobs → (does (asks o.job (abandons o.number)) w).answer ≡ done
+abandoned w o h = ap (λ (d : Done). d.answer) (accepts o.job (abandons o.number) w h)
+
 pub abandon_ends : (o : Owed) (w v : World) (r : Result (Unit {0}) Returned) → Acceptable (Some o) w.jobs
     → does (asks o.job (abandons o.number)) w ≡ record { world = v; answer = returned_answer r } → IsOk r
 abandon_ends o w v r h p = receipt_ends o.job (abandons o.number) w v r h refl p

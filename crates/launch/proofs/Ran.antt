@@ -21,10 +21,10 @@ pub ran_open : (j : ℕ) (w v : World) (r : Ran) (o : Option Owed) → RanSays j
 ran_open j w v r o h = ap is_open h.status ∙ stop_open r.stop
 
 -- An open job 0 tells its state.
-open_judged : (b : Job) → is_open b.status ≡ true → judge_open_job 0 b ≡ Ok tt
+pub open_judged : (b : Job) → is_open b.status ≡ true → judge_open_job 0 b ≡ Ok tt
 open_judged b e = ap (λ z. also (when (not z) NotOpen) (Ok tt)) e
 
-state_told : (w : World) → is_open (w.jobs 0).status ≡ true → does (asks 0 states) w ≡ record { world = w; answer = told (state_of (w.jobs 0)) }
+pub state_told : (w : World) → is_open (w.jobs 0).status ≡ true → does (asks 0 states) w ≡ record { world = w; answer = told (state_of (w.jobs 0)) }
 state_told w e = accepts 0 states w (open_judged (w.jobs 0) e) ∙ settles_answer 0 w (told (state_of (w.jobs 0)))
 
 pub state_is : (w v : World) (r : Result State Refusal) → is_open (w.jobs 0).status ≡ true

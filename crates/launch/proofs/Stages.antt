@@ -30,6 +30,38 @@ module _ (whole : List BlockOf) (w : World) where
   unfolding loads_all
   load_end e = sym (ap (λ (l : List BlockOf). loads_all l w) e)
 
+-- A refused file.
+pub file_refused : (file : List ℕ) (m : Mem) (e : Refusal) → Err e ≡ image_of file → launch_of file m ≡ launched_by (Err e) (new_world m)
+file_refused file m e h = ap (λ (x : Result Parsed Refusal). on_image x (new_world m)) (sym h)
+
+-- A file that is read, opened in the world `w` of a new engine.
+module _ (file : List ℕ) (m : Mem) (p : Parsed) (w : World) (read : Ok p ≡ image_of file) (new : w ≡ new_world m) where
+  opening : launch_of file m ≡ after_open (does (opens 0 p.table p.start) w) p.blocks
+  opening =
+      ap (λ (x : Result Parsed Refusal). on_image x (new_world m)) (sym read)
+      ∙ ap (λ (x : World). after_open (does (opens 0 p.table p.start) x) p.blocks) (sym new)
+
+  pub open_refused : (v : World) (e : Refusal) → does (opens 0 p.table p.start) w ≡ record { world = v; answer = refused e } → launch_of file m ≡ launched_by (Err e) v
+  open_refused v e h = opening ∙ ap (λ (d : Done). after_open d p.blocks) h
+
+  module _ (v : World) (opened : does (opens 0 p.table p.start) w ≡ record { world = v; answer = done }) where
+    loading : launch_of file m ≡ runs_loaded (loads_all p.blocks v)
+    loading = opening ∙ ap (λ (d : Done). after_open d p.blocks) opened
+
+    pub load_refused : (u : World) (e : Refusal) → loaded_by (Err e) u ≡ loads_all p.blocks v → launch_of file m ≡ launched_by (Err e) u
+    load_refused u e h = loading ∙ ap runs_loaded (sym h)
+
+    module _ (u : World) (loaded : loaded_by (Ok tt) u ≡ loads_all p.blocks v) where
+      running : launch_of file m ≡ after_run (does (asks 0 (runs 65535)) u)
+      running = loading ∙ ap runs_loaded (sym loaded)
+
+      pub run_refused : (t : World) (e : Refusal) → does (asks 0 (runs 65535)) u ≡ record { world = t; answer = refused e } → launch_of file m ≡ launched_by (Err e) t
+      run_refused t e h = running ∙ ap after_run h
+
+      pub ran_out : (t : World) (r : Ran) (o : Option Owed) → does (asks 0 (runs 65535)) u ≡ record { world = t; answer = ran r o }
+          → launch_of file m ≡ launched_by (Ok (figure_of r t)) (settled_by o t)
+      ran_out t r o h = running ∙ ap after_run h
+
 -- How a launch ends by its meaning, as the code answers it: with a refusal that is handed on, or with a figure.
 ends_refused : (l : Launched) (u : World) (e : Refusal) (r : Result Figure Refusal) → l ≡ launched_by (Err e) u → IsErrAnd r (λ d. d ≡ e)
     → (r ≡ l.answer) × (u.mem ≡ l.world.mem)
@@ -37,39 +69,37 @@ ends_refused l u e r all h =
     let q = err_from_is_err_and r h in
     (q.1 ∙ ap (λ (d : Refusal). Err d) q.2 ∙ sym (ap (λ (x : Launched). x.answer) all), sym (ap (λ (x : Launched). x.world.mem) all))
 
--- A file that is read, opened with its table `t` and start `s` in the world `w` of a new engine.
+-- An image that was read, opened with its table `t` and start `s` in the world `w` of a new engine.
 module _ (file : List ℕ) (m : Mem) (image : Image) (w : World) (t : List ℕ) (s : ℕ) (read : parsed (Ok image) ≡ image_of file) (new : w ≡ new_world m)
     (table : t ≡ image.table) (start : s ≡ image.start) where
-  opening : launch_of file m ≡ after_open (does (opens 0 t s) w) (image_blocks image)
-  opening =
-      ap (λ (x : Result Parsed Refusal). on_image x (new_world m)) (sym read)
-      ∙ ap (λ (x : World). after_open (does (opens 0 image.table image.start) x) (image_blocks image)) (sym new)
-      ∙ sym (ap₂ (λ (x : List ℕ) (y : ℕ). after_open (does (opens 0 x y) w) (image_blocks image)) table start)
+  abbrev whole : Parsed
+  whole = record { table = image.table; start = image.start; blocks = image_blocks image }
 
-  pub open_refused : (v : World) (e : Refusal) (r : Result Figure Refusal) → does (opens 0 t s) w ≡ record { world = v; answer = refused e } → IsErrAnd r (λ d. d ≡ e)
+  by_image : (d : Done) → does (opens 0 t s) w ≡ d → does (opens 0 image.table image.start) w ≡ d
+  by_image d h = ap₂ (λ (x : List ℕ) (y : ℕ). does (opens 0 x y) w) (sym table) (sym start) ∙ h
+
+  pub open_ends : (v : World) (e : Refusal) (r : Result Figure Refusal) → does (opens 0 t s) w ≡ record { world = v; answer = refused e } → IsErrAnd r (λ d. d ≡ e)
       → (r ≡ (launch_of file m).answer) × (v.mem ≡ (launch_of file m).world.mem)
-  open_refused v e r h k = ends_refused _ v e r (opening ∙ ap (λ (d : Done). after_open d (image_blocks image)) h) k
+  open_ends v e r h k = ends_refused _ v e r (open_refused file m whole w read new v e (by_image _ h)) k
 
   -- Its blocks `bs` are loaded in the world `v`.
   module _ (v : World) (bs : List BlockOf) (opened : does (opens 0 t s) w ≡ record { world = v; answer = done }) (blocks : bs ≡ image_blocks image) where
-    loading : launch_of file m ≡ runs_loaded (loads_all bs v)
-    loading = opening ∙ ap (λ (d : Done). after_open d (image_blocks image)) opened ∙ sym (ap (λ (l : List BlockOf). runs_loaded (loads_all l v)) blocks)
-
-    pub load_refused : (u : World) (e : Refusal) (r : Result Figure Refusal) → loaded_by (Err e) u ≡ loads_all bs v → IsErrAnd r (λ d. d ≡ e)
+    pub load_ends : (u : World) (e : Refusal) (r : Result Figure Refusal) → loaded_by (Err e) u ≡ loads_all bs v → IsErrAnd r (λ d. d ≡ e)
         → (r ≡ (launch_of file m).answer) × (u.mem ≡ (launch_of file m).world.mem)
-    load_refused u e r h k = ends_refused _ u e r (loading ∙ ap runs_loaded (sym h)) k
+    load_ends u e r h k =
+        ends_refused _ u e r (load_refused file m whole w read new v (by_image _ opened) u e (h ∙ ap (λ (l : List BlockOf). loads_all l v) blocks)) k
 
     -- It is run in the world `u`.
     module _ (u : World) (loaded : loaded_by (Ok tt) u ≡ loads_all bs v) where
-      running : launch_of file m ≡ after_run (does (asks 0 (runs 65535)) u)
-      running = loading ∙ ap runs_loaded (sym loaded)
+      all_loaded : loaded_by (Ok tt) u ≡ loads_all (image_blocks image) v
+      all_loaded = loaded ∙ ap (λ (l : List BlockOf). loads_all l v) blocks
 
-      pub run_refused : (x : World) (e : Refusal) (r : Result Figure Refusal) → does (asks 0 (runs 65535)) u ≡ record { world = x; answer = refused e } → IsErrAnd r (λ d. d ≡ e)
+      pub run_ends : (x : World) (e : Refusal) (r : Result Figure Refusal) → does (asks 0 (runs 65535)) u ≡ record { world = x; answer = refused e } → IsErrAnd r (λ d. d ≡ e)
           → (r ≡ (launch_of file m).answer) × (x.mem ≡ (launch_of file m).world.mem)
-      run_refused x e r h k = ends_refused _ x e r (running ∙ ap after_run h) k
+      run_ends x e r h k = ends_refused _ x e r (run_refused file m whole w read new v (by_image _ opened) u all_loaded x e h) k
 
-      pub ran_out : (x : World) (r : Ran) (o : Option Owed) (f : Figure) → does (asks 0 (runs 65535)) u ≡ record { world = x; answer = ran r o } → f ≡ figure_of r x
+      pub ran_ends : (x : World) (r : Ran) (o : Option Owed) (f : Figure) → does (asks 0 (runs 65535)) u ≡ record { world = x; answer = ran r o } → f ≡ figure_of r x
           → (Ok f ≡ (launch_of file m).answer) × (x.mem ≡ (launch_of file m).world.mem)
-      ran_out x r o f h k =
-          let all : launch_of file m ≡ launched_by (Ok (figure_of r x)) (settled_by o x) = running ∙ ap after_run h in
+      ran_ends x r o f h k =
+          let all : launch_of file m ≡ launched_by (Ok (figure_of r x)) (settled_by o x) = ran_out file m whole w read new v (by_image _ opened) u all_loaded x r o h in
           (ap {B = Result Figure Refusal} (λ (g : Figure). Ok g) k ∙ sym (ap (λ (l : Launched). l.answer) all), sym (ap (λ (l : Launched). l.world.mem) all ∙ settled_mem o x))

@@ -26,14 +26,14 @@ none_passes f (suc count) from e k low high = go (f from) refl e (λ p l. none_p
     go false q p rest = ⊎_elim (λ (s : k ≡ from). ap f s ∙ q) (λ d. rest p (omega (arith, d))) (cases_eq k from)
 
 -- What `find` says of a range is what `first_from` computes.
-first_is_none : (f : ℕ → Bool) (count from : ℕ) → ((k : ℕ) → from ≤ k → k < from + count → f k ≡ false) → first_from count from f ≡ None
+pub first_is_none : (f : ℕ → Bool) (count from : ℕ) → ((k : ℕ) → from ≤ k → k < from + count → f k ≡ false) → first_from count from f ≡ None
 unfolding first_from
 first_is_none f zero from h = refl
 first_is_none f (suc n) from h =
     ap (λ z. picked z from (first_from n (from + 1) f)) (h from (omega arith) (omega arith))
     ∙ first_is_none f n (from + 1) (λ k l u. h k (omega arith) (omega arith))
 
-first_is_some : (f : ℕ → Bool) (count from i : ℕ) → from ≤ i → i < from + count → f i ≡ true → ((k : ℕ) → from ≤ k → k < i → f k ≡ false) → first_from count from f ≡ Some i
+pub first_is_some : (f : ℕ → Bool) (count from i : ℕ) → from ≤ i → i < from + count → f i ≡ true → ((k : ℕ) → from ≤ k → k < i → f k ≡ false) → first_from count from f ≡ Some i
 unfolding first_from
 first_is_some f zero from i low high t h = absurd (omega arith)
 first_is_some f (suc n) from i low high t h =

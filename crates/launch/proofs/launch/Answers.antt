@@ -5,14 +5,14 @@ use Rattle.engine.specs.Answers.{owed_of}
 use Rattle.engine.proofs.Receipts.{ran_says, ran_acceptable}
 use Rattle.launch.specs.declared.Figure.{Figure}
 use Rattle.launch.proofs.Ran.{ran_open}
-use Rattle.launch.proofs.Stages.{open_refused, load_refused, run_refused, ran_out}
+use Rattle.launch.proofs.Stages.{open_ends, load_ends, run_ends, ran_ends}
 use Rattle.launch.proofs.launch.Goals as goal
 
 pub returns-in_err-open : goal.returns-in_err-open
 returns-in_err-open g c =
     let m : Mem = g.M.Memory.mem c.args.memory.now in
     let ends =
-    open_refused c.args.file.now m c.in_ok-image.image (world_of c.new-engine.result.jobs m) _ _ c.in_ok-image.ensures.answer (c.new-engine.ensures.world m) c.table.ensures c.start.ensures
+    open_ends c.args.file.now m c.in_ok-image.image (world_of c.new-engine.result.jobs m) _ _ c.in_ok-image.ensures.answer (c.new-engine.ensures.world m) c.table.ensures c.start.ensures
     _ _ _ c.in_err-open.ensures c.from_residual-in_err-open.ensures.1 in
     record { answer = ends.0; after = ends.1 }
 
@@ -20,7 +20,7 @@ pub returns-in_err-load_all : goal.returns-in_err-load_all
 returns-in_err-load_all g c =
     let m : Mem = g.M.Memory.mem c.args.memory.now in
     let ends =
-    load_refused c.args.file.now m c.in_ok-image.image (world_of c.new-engine.result.jobs m) _ _ c.in_ok-image.ensures.answer (c.new-engine.ensures.world m) c.table.ensures c.start.ensures
+    load_ends c.args.file.now m c.in_ok-image.image (world_of c.new-engine.result.jobs m) _ _ c.in_ok-image.ensures.answer (c.new-engine.ensures.world m) c.table.ensures c.start.ensures
     _ _ c.in_ok-open.ensures c.blocks-2.ensures _ _ _ c.in_err-load_all.ensures c.from_residual-in_err-load_all.ensures.1 in
     record { answer = ends.0; after = ends.1 }
 
@@ -28,7 +28,7 @@ pub returns-in_err-run : goal.returns-in_err-run
 returns-in_err-run g c =
     let m : Mem = g.M.Memory.mem c.args.memory.now in
     let ends =
-    run_refused c.args.file.now m c.in_ok-image.image (world_of c.new-engine.result.jobs m) _ _ c.in_ok-image.ensures.answer (c.new-engine.ensures.world m) c.table.ensures c.start.ensures
+    run_ends c.args.file.now m c.in_ok-image.image (world_of c.new-engine.result.jobs m) _ _ c.in_ok-image.ensures.answer (c.new-engine.ensures.world m) c.table.ensures c.start.ensures
     _ _ c.in_ok-open.ensures c.blocks-2.ensures _ c.in_ok-load_all.ensures _ _ _ c.in_err-run.ensures c.from_residual-in_err-run.ensures.1 in
     record { answer = ends.0; after = ends.1 }
 
@@ -48,7 +48,7 @@ pub returns : goal.returns
 returns g c =
     let m : Mem = g.M.Memory.mem c.args.memory.now in
     let ends =
-    ran_out c.args.file.now m c.in_ok-image.image (world_of c.new-engine.result.jobs m) _ _ c.in_ok-image.ensures.answer (c.new-engine.ensures.world m) c.table.ensures c.start.ensures
+    ran_ends c.args.file.now m c.in_ok-image.image (world_of c.new-engine.result.jobs m) _ _ c.in_ok-image.ensures.answer (c.new-engine.ensures.world m) c.table.ensures c.start.ensures
     _ _ c.in_ok-open.ensures c.blocks-2.ensures _ c.in_ok-load_all.ensures _ c.in_ok-run.field-0.run (owed_of c.in_ok-run.field-0.receipt) _ c.in_ok-run.ensures
     (c.figure_of-figure.ensures ∙ ap {B = Figure} (λ a. record { stop = c.in_ok-run.field-0.run.stop; steps = c.in_ok-run.field-0.run.steps; a = a }) c.accumulator.ensures) in
     record { answer = ends.0; after = ends.1 }
