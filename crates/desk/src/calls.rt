@@ -80,7 +80,9 @@ impl Desk {
     pub fn state_of(&self, job: u8) -> Result<State, Refusal>
         ensures { (m : Mem) → does (asks job states) (world_of self.now.engine.jobs m) ≡ record { world = world_of self.now.engine.jobs m; answer = told_answer result } }
     {
-        self.engine.state_of(job)
+        let mut state = State::blank();
+        self.state(job, &mut state)?;
+        Ok(state)
     }
 
     // As the engine's: refused with 4 and 6, with the buffer as it was.

@@ -183,12 +183,13 @@ impl Engine {
         Ok(())
     }
 
-    // The job's state: refused with 4 and 6.
+    // The job's state, which `state` puts into a buffer: refused with 4 and 6.
     pub fn state_of(&self, job: u8) -> Result<State, Refusal>
         ensures { (m : Mem) → does (asks job states) (world_of self.now.jobs m) ≡ record { world = world_of self.now.jobs m; answer = told_answer result } }
     {
-        let record = self.open_record(job)?;
-        Ok(record.state())
+        let mut state = State::blank();
+        self.state(job, &mut state)?;
+        Ok(state)
     }
 
     // Fills the buffer with the job's state: refused with 4 and 6, with the buffer as it was.
@@ -196,7 +197,8 @@ impl Engine {
         ensures world { (m : Mem) → does (asks job states) (world_of self.now.jobs m) ≡ record { world = world_of self.now.jobs m; answer = state_answer result out.new } }
         ensures untouched { OnErr result (out.new ≡ out.old) }
     {
-        *out = self.state_of(job)?;
+        let record = self.open_record(job)?;
+        *out = record.state();
         Ok(())
     }
 
