@@ -1,5 +1,11 @@
 // The host's side: an engine at its desk, and the board that its jobs work on. The tests of jobs beside each other have such lines of their
 // own: in common are a dozen, fewer than a library for both would have, and a reader of either would have to look there.
+ghost use Rattle.std.specs.Prelude.{◌≡◌};
+ghost use Rattle.boards.specs.Boards.{shows};
+ghost use Rattle.model.specs.Calls.{opens};
+ghost use Rattle.model.specs.Worlds.{world_of, does};
+ghost use Rattle.engine.specs.Answers.{done_answer};
+
 use crate::problem::Problem;
 use boards::single::SingleBoard;
 use desk::desk::Desk;
@@ -15,9 +21,15 @@ pub struct Host<'h, 'b> {
 }
 
 impl Host<'_, '_> {
-    // Opens a job and loads its program at address 0, where it starts.
-    pub fn start(&mut self, job: u8, table: [u8; 15], code: &[u8]) -> Result<(), Refusal> {
-        self.desk.open(self.board, job, table, 0)?;
+    // Opens a job, which starts at address 0.
+    pub fn open(&mut self, job: u8, table: [u8; 15]) -> Result<(), Refusal>
+        ensures { does (opens job table 0) (world_of self.old.desk.now.engine.jobs (shows self.old.board.now)) ≡ record { world = world_of self.new.desk.now.engine.jobs (shows self.new.board.now); answer = done_answer result } }
+    {
+        self.desk.open(self.board, job, table, 0)
+    }
+
+    // Loads a job's program at address 0.
+    pub fn load(&mut self, job: u8, code: &[u8]) -> Result<(), Refusal> {
         self.desk.load(self.board, job, 0, code)
     }
 
@@ -31,7 +43,7 @@ impl Host<'_, '_> {
 
     // Replies to the system call that a job waits for.
     pub fn reply(&mut self, job: u8, registers: Registers) -> Result<(), Problem> {
-        let number = self.desk.owed(job).ok_or(Problem::NotWaiting)?;
+        let number = self.desk.owed(job).ok_or(Problem::NotHeld)?;
         self.desk.reply(job, number, registers)?;
         Ok(())
     }

@@ -32,7 +32,7 @@ fn compare(heap: Global) -> Result<Report, Problem> {
     })
 }
 
-fn main(rt: HostRuntime) -> anyhow::Result<()> {
+fn main(rt: HostRuntime) -> Result<(), Problem> {
     let report = compare(rt.alloc())?;
     print!(rt; "{report}")?;
     Ok(())

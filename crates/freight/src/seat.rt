@@ -22,7 +22,8 @@ pub struct Seat {
 impl Seat {
     // Opens the shipper's job and loads its program.
     pub fn take(host: &mut Host, heap: Global, shipper: Shipper) -> Result<Seat, Refusal> {
-        host.start(shipper.job, shipper.table, shipper.code)?;
+        host.open(shipper.job, shipper.table)?;
+        host.load(shipper.job, shipper.code)?;
         Ok(Seat {
             shipper,
             account: Account::new(heap),

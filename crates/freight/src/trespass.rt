@@ -1,4 +1,9 @@
 // A third program, which tries to read and write what is not its own.
+ghost use Rattle.std.specs.Prelude.{◌≡◌, IfOk, IfErr};
+ghost use Rattle.boards.specs.Boards.{shows};
+ghost use Rattle.model.specs.Calls.{opens, refused};
+ghost use Rattle.model.specs.Worlds.{world_of, does};
+
 use crate::host::Host;
 use crate::listings::{JUMPS_BEYOND, LOADS_TABLE, MOVES_INTO_TARIFF, READS_BEYOND, WRITES_TARIFF};
 use crate::problem::Problem;
@@ -56,12 +61,18 @@ pub const TRESPASSES: [Trespass; 6] = [
 ];
 
 impl Trespass {
-    // Opens the job anew, runs it, and closes it again: the stop of its run, or the first refusal.
-    fn attempt(&self, host: &mut Host, limit: u16) -> Result<Stop, Refusal> {
-        host.start(JOB, self.table, self.code)?;
+    // Opens the job anew, runs it, and closes it again: the stop of its run, or the refusal of its opening. Another refusal is a problem, and no end
+    // of a trespass: its words speak of an opening, and the job would stay open.
+    fn attempt(&self, host: &mut Host, limit: u16) -> Result<Result<Stop, Refusal>, Refusal>
+        ensures { IfOk result (λ end. IfErr end (λ e. (does (opens 2 self.now.table 0) (world_of host.old.desk.now.engine.jobs (shows host.old.board.now))).answer ≡ refused e)) }
+    {
+        if let Err(refusal) = host.open(JOB, self.table) {
+            return Ok(Err(refusal));
+        }
+        host.load(JOB, self.code)?;
         let ran = host.run(JOB, limit)?;
         host.close(JOB)?;
-        Ok(ran.stop)
+        Ok(Ok(ran.stop))
     }
 }
 
@@ -90,9 +101,10 @@ impl Trespasser {
     // Tries the next trespass, if one is left.
     pub fn turn(&mut self, host: &mut Host, limit: u16) -> Result<(), Problem> {
         if let Some(next) = self.left.next() {
+            let end = next.attempt(host, limit)?;
             self.attempts.push(Attempt {
                 trespass: *next,
-                end: next.attempt(host, limit),
+                end,
             })?;
         }
         Ok(())
