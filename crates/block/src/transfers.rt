@@ -26,6 +26,7 @@ pub struct Transfer {
 }
 
 // One element of BT or BTR: the stored byte with B added to it.
+#[inline(always)]
 fn transfer_element<S: Space>(bank: &mut Bank, space: &mut S, by: u16) -> Result<u16, Fault>
     ensures all { after result bank.new (S.cells space.new) ≡ element_of by bank.old (S.cells space.old) }
     ensures kept { S.frame space.new ≡ S.frame space.old }
@@ -40,6 +41,7 @@ fn transfer_element<S: Space>(bank: &mut Bank, space: &mut S, by: u16) -> Result
 }
 
 // One element of BCV: the byte at DE by the table at HL, which does not leave the 256 bytes of H.
+#[inline(always)]
 fn convert_element<S: Space>(bank: &mut Bank, space: &mut S) -> Result<u16, Fault>
     ensures all { after result bank.new (S.cells space.new) ≡ converted_of bank.old (S.cells space.old) }
     ensures kept { S.frame space.new ≡ S.frame space.old }

@@ -121,9 +121,13 @@ fn move_block<S: Space>(cpu: &mut Processor, space: &mut S, kind: Block) -> Resu
     ensures all { effect result cpu.new (S.cells space.new) ≡ moved_by kind cpu.old (S.cells space.old) }
     ensures kept { S.frame space.new ≡ S.frame space.old }
 {
-    let bank = cpu.bank_mut();
+    let lent = cpu.bank_mut();
+    // The elements work on a copy, which the compiler keeps in registers: in place each of them would go through memory.
+    let mut bank = *lent;
     let unmarked = bank.b == 0;
-    let moved = run_block(kind, bank, space)?;
+    let moved = run_block(kind, &mut bank, space);
+    *lent = bank;
+    let moved = moved?;
     Ok(Carried::on(Course {
         taken: false,
         elements: moved.elements,
@@ -137,9 +141,12 @@ fn work_field<S: Space>(cpu: &mut Processor, space: &mut S, op: Operation) -> Re
     ensures all { effect result cpu.new (S.cells space.new) ≡ field_by op cpu.old (S.cells space.old) }
     ensures kept { S.frame space.new ≡ S.frame space.old }
 {
-    let bank = cpu.bank_mut();
+    let lent = cpu.bank_mut();
+    let mut bank = *lent;
     let elements = width_of(bank.c) as u16;
-    run_field(op, bank, space)?;
+    let worked = run_field(op, &mut bank, space);
+    *lent = bank;
+    worked?;
     Ok(Carried::on(Course {
         elements,
         ..Course::default()

@@ -53,6 +53,11 @@ impl Repeated {
         if length > MOST_BYTES as usize {
             return Err(Fault::TooManyBytes);
         }
+        // Room up to a power of two, as one byte after the other would make it: by the exact length, a word of many bytes and one byte behind
+        // it would take twice the room.
+        if bytes.capacity() < length {
+            bytes.reserve(length.next_power_of_two() - bytes.len())?;
+        }
         bytes.resize(length, self.value)?;
         Ok(())
     }
